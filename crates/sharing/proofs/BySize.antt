@@ -1,0 +1,126 @@
+-- Shares that have the pool's sign and a size by the place: lawful where the sizes are exact. Assumes nothing.
+use mathlib.Core.Path.{_≡_, refl, sym, ap, _∙_, subst}
+use mathlib.Core.Bool.{cond}
+use mathlib.Core.List.{List, [], _∷_, _++_, map}
+use mathlib.Core.Logic.{⊎-elim}
+use Prim.Native.Nat.{ℕ, zero, suc, _+_, _*_, _/_, _%_, _<_, _≤_}
+use native.Mathlib.Nat.{zero-add, mul-add, mul-comm, mul-le-mul-left, lt-of-mul-lt-mul-left, div-add-mod', mod-lt}
+use native.Mathlib.Numerals.{add-one}
+use native.Mathlib.Omega.{arith}
+use lib.Dec.{eqb}
+use lib.IntN.{ℤ, pos, negsuc, natAbs, _+ℤ_, _-ℤ_, _*ℤ_}
+use lib.ListN.{length, getD, take, replicate}
+use Rattle.std.specs.Iters.{counting}
+use Rattle.std.specs.shelf.Lists.{sum}
+use Rattle.std.proofs.shelf.Counted.{length-map-counting, getD-map-counting, map-counting-more, fill-by-all}
+use Rattle.std.proofs.shelf.Lists.{length-take-le, getD-take, length-replicate, getD-replicate}
+use Rattle.std.proofs.shelf.Signed.{ints}
+use Rattle.std.proofs.shelf.Sums.{folded-push}
+use Rattle.std.proofs.shelf.Tests.{cases-lt, eq-eqb, ne-eqb}
+use Rattle.sharing.specs.Limits.{Shareable}
+use Rattle.sharing.specs.Laws.{total, Near, Apportioned, Lawful}
+use Rattle.sharing.specs.Sizes.{signed, by-place}
+use Rattle.sharing.proofs.Sums.{up-to, up-to-same, up-to-none, getD-le-sum}
+
+signed-zero : (p : ℤ) → signed p 0 ≡ pos 0
+signed-zero (pos n) = refl
+signed-zero (negsuc n) = refl
+
+signed-abs : (p : ℤ) → signed p (natAbs p) ≡ p
+signed-abs (pos n) = refl
+signed-abs (negsuc n) = refl
+
+signed-add : (p : ℤ) (a b : ℕ) → signed p a +ℤ signed p b ≡ signed p (a + b)
+signed-add (pos n) a b = refl
+signed-add (negsuc n) a b = omega (arith, ints)
+
+-- a size that is less than one unit off its exact part
+near-signed : (p : ℤ) (whole m w : ℕ) → whole * m < natAbs p * w + whole → natAbs p * w < whole * m + whole → Near p whole w (signed p m)
+near-signed (pos n) whole m w above below = omega (arith, ints)
+near-signed (negsuc n) whole zero w above below = omega (arith, ints)
+near-signed (negsuc n) whole (suc m) w above below = omega (arith, ints)
+
+total-signed : (p : ℤ) (f : ℕ → ℕ) (n : ℕ) → total (map (λ i. signed p (f i)) (counting 0 n)) ≡ signed p (up-to f n)
+total-signed p f zero = sym (signed-zero p)
+total-signed p f (suc n) =
+    let g : ℕ → ℤ = λ i. signed p (f i) in
+    let pushed : map g (counting 0 (suc n)) ≡ map g (counting 0 n) ++ g n ∷ [] = ap (λ m. map g (counting 0 m)) (sym (add-one n)) ∙ map-counting-more g 0 n n (zero-add n) in
+    ap total pushed ∙ folded-push _+ℤ_ (pos 0) (map g (counting 0 n)) (g n) ∙ ap (λ z. z +ℤ g n) (total-signed p f n) ∙ signed-add p (up-to f n) (f n)
+
+-- What a rule shows of its sizes: they add up to the pool's, and each is less than one unit off its exact part.
+pub record Exact (size : ℕ → ℕ → List ℕ → ℕ → ℕ) : Type 0 where
+  pub all : (q r : ℕ) (ws : List ℕ) → r < sum ws → up-to (size q r ws) (length ws) ≡ q * sum ws + r
+  pub near : (q r : ℕ) (ws : List ℕ) (i : ℕ) → r < sum ws → i < length ws
+      → (sum ws * size q r ws i < (q * sum ws + r) * getD ws i 0 + sum ws) × ((q * sum ws + r) * getD ws i 0 < sum ws * size q r ws i + sum ws)
+
+-- no size is more than the pool's
+pub size-le : (size : ℕ → ℕ → List ℕ → ℕ → ℕ) → Exact size → (q r : ℕ) (ws : List ℕ) (i : ℕ) → r < sum ws → i < length ws → size q r ws i ≤ q * sum ws + r
+size-le size exact q r ws i part h =
+    let n : ℕ = q * sum ws + r in
+    let whole : ℕ = sum ws in
+    let nw : n * getD ws i 0 ≤ n * whole = mul-le-mul-left n (getD-le-sum ws i h) in
+    let top : whole * size q r ws i < whole * (n + 1) = omega (arith, exact .near q r ws i part h .0, mul-add whole n 1, mul-comm n whole) in
+    let le : size q r ws i < n + 1 = lt-of-mul-lt-mul-left whole top in
+    omega arith
+
+module _ (size : ℕ → ℕ → List ℕ → ℕ → ℕ) (p : ℤ) (ws : List ℕ) where
+  abbrev at-place : ℕ → ℕ
+  at-place i = size (natAbs p / sum ws) (natAbs p % sum ws) ws i
+
+  abbrev sized : ℕ → ℕ
+  sized i = cond (eqb (sum ws) 0) 0 (at-place i)
+
+  sized-some : 0 < sum ws → (i : ℕ) → sized i ≡ at-place i
+  sized-some some i = ap (λ b. cond b 0 (at-place i)) (ne-eqb (sum ws) 0 (λ e. omega arith))
+
+  sized-none : sum ws ≡ 0 → (i : ℕ) → sized i ≡ 0
+  sized-none none i = ap (λ b. cond b 0 (at-place i)) (eq-eqb (sum ws) 0 none)
+
+  length-by-place : length (by-place size p ws) ≡ length ws
+  length-by-place = length-map-counting (λ i. signed p (sized i)) 0 (length ws)
+
+  getD-by-place : (i : ℕ) → i < length ws → getD (by-place size p ws) i (pos 0) ≡ signed p (sized i)
+  getD-by-place i h = getD-map-counting (λ i. signed p (sized i)) 0 (length ws) i i (pos 0) h (omega arith)
+
+  split : natAbs p / sum ws * sum ws + natAbs p % sum ws ≡ natAbs p
+  split = div-add-mod' (natAbs p) (sum ws)
+
+  total-some : Exact size → 0 < sum ws → total (by-place size p ws) ≡ p
+  total-some exact some =
+      total-signed p sized (length ws)
+      ∙ ap (signed p) (up-to-same sized at-place (length ws) (sized-some some) ∙ exact .all (natAbs p / sum ws) (natAbs p % sum ws) ws (mod-lt (natAbs p) some) ∙ split)
+      ∙ signed-abs p
+
+  total-none : sum ws ≡ 0 → p ≡ pos 0 → total (by-place size p ws) ≡ p
+  total-none none e =
+      total-signed p sized (length ws) ∙ ap (signed p) (up-to-same sized (λ _. 0) (length ws) (sized-none none) ∙ up-to-none (length ws)) ∙ signed-zero p ∙ sym e
+
+  near-by-place : Exact size → (i : ℕ) → 0 < sum ws → i < length ws → Near p (sum ws) (getD ws i 0) (getD (by-place size p ws) i (pos 0))
+  near-by-place exact i some h =
+      let f = exact .near (natAbs p / sum ws) (natAbs p % sum ws) ws i (mod-lt (natAbs p) some) h in
+      let above : sum ws * at-place i < natAbs p * getD ws i 0 + sum ws = subst (λ n. sum ws * at-place i < n * getD ws i 0 + sum ws) split (f .0) in
+      let below : natAbs p * getD ws i 0 < sum ws * at-place i + sum ws = subst (λ n. n * getD ws i 0 < sum ws * at-place i + sum ws) split (f .1) in
+      subst (λ z. Near p (sum ws) (getD ws i 0) z) (sym (getD-by-place i h ∙ ap (signed p) (sized-some some i))) (near-signed p (sum ws) (at-place i) (getD ws i 0) above below)
+
+  pub apportioned : Exact size → Apportioned p ws (by-place size p ws)
+  apportioned exact =
+      record {
+        one-each = length-by-place;
+        in-full = λ shareable. ⊎-elim (total-some exact) (λ h. let z : sum ws ≡ 0 = omega arith in total-none z (shareable z)) (cases-lt 0 (sum ws));
+        near = near-by-place exact;
+        no-weight = λ i none h. getD-by-place i h ∙ ap (signed p) (sized-none none i) ∙ signed-zero p;
+      }
+
+  -- the shares that the code has written, in the first places
+  pub filled : (at : List ℤ) (n whole : ℕ) → n ≡ natAbs p → whole ≡ sum ws → 0 < whole → length ws ≤ length at
+      → ((k : ℕ) → k < length ws → getD at k (pos 0) ≡ signed p (size (n / whole) (n % whole) ws k)) → take (length ws) at ≡ by-place size p ws
+  filled at n whole is all some room each =
+      fill-by-all (λ i. signed p (sized i)) (take (length ws) at) (length ws) (pos 0) (length-take-le (length ws) at room)
+      (λ k h.
+      getD-take (length ws) at k (pos 0) h ∙ each k h ∙ ap (λ x. signed p (size (x / whole) (x % whole) ws k)) is
+      ∙ ap (λ x. signed p (size (natAbs p / x) (natAbs p % x) ws k)) all ∙ ap (signed p) (sym (sized-some (omega arith) k)))
+
+  pub nothing : sum ws ≡ 0 → replicate (length ws) (pos 0) ≡ by-place size p ws
+  nothing none =
+      fill-by-all (λ i. signed p (sized i)) (replicate (length ws) (pos 0)) (length ws) (pos 0) (length-replicate (length ws) (pos 0))
+      (λ k h. getD-replicate (length ws) k (pos 0) (pos 0) h ∙ sym (ap (signed p) (sized-none none k) ∙ signed-zero p))

@@ -1,0 +1,6 @@
+pub mod Sums
+pub mod BySize
+pub mod RunningSizes
+pub mod Tallies
+pub mod RemainderSizes
+pub mod Hands

@@ -1,0 +1,64 @@
+// Who takes shares, and the one place where a pool is shared among them.
+ghost use mathlib.Core.Path.{_≡_};
+ghost use mathlib.Core.List.{map};
+ghost use Prim.Native.Nat.{ℕ};
+ghost use Rattle.std.specs.Vec.{made, refused};
+ghost use Rattle.sharing.specs.Handing.{handed};
+ghost use Rattle.sharing.specs.Laws.{Apportioned};
+ghost use Rattle.sharing.specs.Outcome.{Outcome};
+use super::limits::MOST_WEIGHTS;
+use super::outcome::SharingFault;
+use super::quantities::Quantity;
+use super::rule::SharingRule;
+
+// Tells its weight, takes a share in its own unit, and tells it back.
+pub trait Recipient {
+    type Unit: Quantity;
+
+    ghost weighs: { Self → ℕ };
+
+    ghost holds: { Self → Self·Unit };
+
+    // the recipient, once it has taken a share
+    ghost having: { Self → Self·Unit → Self };
+
+    law told: { (x : Self) (u : Self·Unit) → holds (having x u) ≡ u };
+
+    law steady: { (x : Self) (u : Self·Unit) → weighs (having x u) ≡ weighs x };
+
+    fn weight(&self) -> u32
+        ensures { λ r. ⌜ r ≡ weighs (now (self .entry)) ⌝ };
+
+    fn take(&mut self, share: Self::Unit)
+        ensures { λ _. ⌜ now (self .exit) ≡ having (now (self .entry)) share ⌝ };
+
+    fn share(&self) -> Self::Unit
+        ensures { λ r. ⌜ r ≡ holds (now (self .entry)) ⌝ };
+}
+
+// Shares a pool among recipients by a rule; where it is refused, no recipient has changed.
+pub fn share_out<R: SharingRule, X: Recipient>(
+    rule: &R,
+    pool: X::Unit,
+    to: &mut [X],
+) -> Result<(), SharingFault>
+    ensures outcome { λ r. ⌜ Outcome (Unit·Quantity .amount pool) (map (X·Recipient .weighs) (now (to .entry))) (λ _. now (to .exit) ≡ handed (X·Recipient .having) (Unit·Quantity .of) (now (to .entry)) (R·SharingRule .shares (now (rule .entry)) (Unit·Quantity .amount pool) (map (X·Recipient .weighs) (now (to .entry))))) r ⌝ }
+    ensures kept { λ r. ⌜ refused r (λ _. now (to .exit) ≡ now (to .entry)) ⌝ }
+    ensures told { λ r. ⌜ made r (λ _. map (λ x. Unit·Quantity .amount (X·Recipient .holds x)) (now (to .exit)) ≡ R·SharingRule .shares (now (rule .entry)) (Unit·Quantity .amount pool) (map (X·Recipient .weighs) (now (to .entry)))) ⌝ }
+    ensures lawful { λ r. ⌜ made r (λ _. Apportioned (Unit·Quantity .amount pool) (map (X·Recipient .weighs) (now (to .entry))) (map (λ x. Unit·Quantity .amount (X·Recipient .holds x)) (now (to .exit)))) ⌝ }
+    ensures steady { λ _. ⌜ map (X·Recipient .weighs) (now (to .exit)) ≡ map (X·Recipient .weighs) (now (to .entry)) ⌝ }
+{
+    if to.len() > MOST_WEIGHTS {
+        return Err(SharingFault::Limit);
+    }
+    let mut weights = [0u32; MOST_WEIGHTS];
+    for (i, x) in to.iter().enumerate() {
+        weights[i] = x.weight();
+    }
+    let answer = rule.share(pool.count(), &weights[0..to.len()])?;
+    let shares = answer.as_slice();
+    for (i, x) in to.iter_mut().enumerate() {
+        x.take(X::Unit::new(shares[i]));
+    }
+    Ok(())
+}

@@ -1,0 +1,19 @@
+// The two rules of the hour book.
+pub mod largest_remainder;
+pub mod running;
+
+ghost use mathlib.Core.Path.{_≡_};
+ghost use Prim.Native.Nat.{_≤_};
+ghost use Rattle.sharing.specs.Sizes.{signed};
+
+// A size with the sign of the pool.
+fn with_sign(pool: i64, size: u64) -> i64
+    requires { ⌜ size ≤ 1000000000000000 ⌝ }
+    ensures { λ r. ⌜ r ≡ signed pool size ⌝ }
+{
+    if pool < 0 {
+        -(size as i64)
+    } else {
+        size as i64
+    }
+}
