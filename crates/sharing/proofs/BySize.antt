@@ -9,11 +9,12 @@ use native.Mathlib.Numerals.{add-one}
 use native.Mathlib.Omega.{arith}
 use lib.Dec.{eqb}
 use lib.IntN.{ℤ, pos, negsuc, natAbs, _+ℤ_, _-ℤ_, _*ℤ_}
-use lib.ListN.{length, getD, take, replicate}
+use lib.ListN.{length, getD, set, take, replicate}
 use Rattle.std.specs.Iters.{counting}
 use Rattle.std.specs.shelf.Lists.{sum}
 use Rattle.std.proofs.shelf.Counted.{length-map-counting, getD-map-counting, map-counting-more, fill-by-all}
-use Rattle.std.proofs.shelf.Lists.{length-take-le, getD-take, length-replicate, getD-replicate}
+use Rattle.std.proofs.shelf.Edits.{fill-by-more}
+use Rattle.std.proofs.shelf.Lists.{length-set, length-take-le, getD-take, length-replicate, getD-replicate, take-replicate}
 use Rattle.std.proofs.shelf.Signed.{ints}
 use Rattle.std.proofs.shelf.Sums.{folded-push}
 use Rattle.std.proofs.shelf.Tests.{cases-lt, eq-eqb, ne-eqb}
@@ -52,6 +53,16 @@ pub record Exact (size : ℕ → ℕ → List ℕ → ℕ → ℕ) : Type 0 wher
   pub all : (q r : ℕ) (ws : List ℕ) → r < sum ws → up-to (size q r ws) (length ws) ≡ q * sum ws + r
   pub near : (q r : ℕ) (ws : List ℕ) (i : ℕ) → r < sum ws → i < length ws
       → (sum ws * size q r ws i < (q * sum ws + r) * getD ws i 0 + sum ws) × ((q * sum ws + r) * getD ws i 0 < sum ws * size q r ws i + sum ws)
+
+-- a pool's size n as q * W + r, with q and r as the code has them
+pub record Parted (n whole : ℕ) (ws : List ℕ) : Type 0 where
+  pub part : n % whole < sum ws
+  pub back : n / whole * sum ws + n % whole ≡ n
+
+pub parted : (n whole : ℕ) (ws : List ℕ) → 0 < whole → whole ≡ sum ws → Parted n whole ws
+parted n whole ws some all =
+    let lt = mod-lt n some in
+    record { part = omega arith; back = ap (λ x. n / whole * x + n % whole) (sym all) ∙ div-add-mod' n whole }
 
 -- no size is more than the pool's
 pub size-le : (size : ℕ → ℕ → List ℕ → ℕ → ℕ) → Exact size → (q r : ℕ) (ws : List ℕ) (i : ℕ) → r < sum ws → i < length ws → size q r ws i ≤ q * sum ws + r
@@ -111,8 +122,7 @@ module _ (size : ℕ → ℕ → List ℕ → ℕ → ℕ) (p : ℤ) (ws : List 
         no-weight = λ i none h. getD-by-place i h ∙ ap (signed p) (sized-none none i) ∙ signed-zero p;
       }
 
-  -- the shares that the code has written, in the first places
-  pub filled : (at : List ℤ) (n whole : ℕ) → n ≡ natAbs p → whole ≡ sum ws → 0 < whole → length ws ≤ length at
+  filled : (at : List ℤ) (n whole : ℕ) → n ≡ natAbs p → whole ≡ sum ws → 0 < whole → length ws ≤ length at
       → ((k : ℕ) → k < length ws → getD at k (pos 0) ≡ signed p (size (n / whole) (n % whole) ws k)) → take (length ws) at ≡ by-place size p ws
   filled at n whole is all some room each =
       fill-by-all (λ i. signed p (sized i)) (take (length ws) at) (length ws) (pos 0) (length-take-le (length ws) at room)
@@ -120,7 +130,33 @@ module _ (size : ℕ → ℕ → List ℕ → ℕ → ℕ) (p : ℤ) (ws : List 
       getD-take (length ws) at k (pos 0) h ∙ each k h ∙ ap (λ x. signed p (size (x / whole) (x % whole) ws k)) is
       ∙ ap (λ x. signed p (size (natAbs p / x) (natAbs p % x) ws k)) all ∙ ap (signed p) (sym (sized-some (omega arith) k)))
 
-  pub nothing : sum ws ≡ 0 → replicate (length ws) (pos 0) ≡ by-place size p ws
-  nothing none =
-      fill-by-all (λ i. signed p (sized i)) (replicate (length ws) (pos 0)) (length ws) (pos 0) (length-replicate (length ws) (pos 0))
+  -- an array of zeros holds them where there is no weight
+  pub nothing : sum ws ≡ 0 → length ws ≤ 64 → take (length ws) (replicate 64 (pos 0)) ≡ by-place size p ws
+  nothing none room =
+      take-replicate (length ws) 64 (pos 0) room
+      ∙ fill-by-all (λ i. signed p (sized i)) (replicate (length ws) (pos 0)) (length ws) (pos 0) (length-replicate (length ws) (pos 0))
       (λ k h. getD-replicate (length ws) k (pos 0) (pos 0) h ∙ sym (ap (signed p) (sized-none none k) ∙ signed-zero p))
+
+-- The first i shares are written to the array `at`, of which as many are used as there are weights.
+pub record Written (size : ℕ → ℕ → List ℕ → ℕ → ℕ) (p : ℤ) (q r : ℕ) (ws : List ℕ) (at : List ℤ) (i : ℕ) : Type 0 where
+  pub long : length at ≡ 64
+  pub room : length ws ≤ 64
+  pub each : (k : ℕ) → k < i → getD at k (pos 0) ≡ signed p (size q r ws k)
+
+module _ {size : ℕ → ℕ → List ℕ → ℕ → ℕ} {p : ℤ} {ws : List ℕ} {at : List ℤ} where
+  pub written-none : {q r : ℕ} → length at ≡ 64 → length ws ≤ 64 → Written size p q r ws at 0
+  written-none long room = record { long = long; room = room; each = λ k h. absurd (omega arith) }
+
+  pub written-more : {q r i : ℕ} (z : ℤ) → Written size p q r ws at i → i < length ws → z ≡ signed p (size q r ws i) → Written size p q r ws (set at i z) (i + 1)
+  written-more {q} {r} {i} z w h is =
+      let n : i < length at = omega (arith, w .long, w .room) in
+      record {
+        long = length-set at i z ∙ w .long;
+        room = w .room;
+        each = subst (λ y. (k : ℕ) → k < i + 1 → getD (set at i y) k (pos 0) ≡ signed p (size q r ws k)) (sym is) (fill-by-more (λ k. signed p (size q r ws k)) at i (pos 0) n (w .each));
+      }
+
+  pub written-all : {i : ℕ} (n whole : ℕ) → Written size p (n / whole) (n % whole) ws at i → length ws ≤ i → n ≡ natAbs p → whole ≡ sum ws → 0 < whole
+      → take (length ws) at ≡ by-place size p ws
+  written-all n whole w done is all some =
+      filled size p ws at n whole is all some (omega (arith, w .long, w .room)) (λ k h. w .each k (omega arith))

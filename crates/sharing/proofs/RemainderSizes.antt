@@ -1,7 +1,7 @@
 -- The sizes of largest remainder are exact: just as many places get one unit more as units are missing, and each of them
 -- has a remainder. Assumes nothing.
-use mathlib.Core.Path.{_≡_, refl, sym, ap, _∙_}
-use mathlib.Core.List.{List, [], _∷_, map}
+use mathlib.Core.Path.{_≡_, refl, sym, ap, _∙_, subst}
+use mathlib.Core.List.{List, [], _∷_, _++_, map}
 use mathlib.Core.Bool.{Bool, true, false, cond}
 use mathlib.Core.Logic.{⊎-elim}
 use Prim.Native.Nat.{ℕ, zero, suc, _+_, _-_, _*_, _/_, _%_, _<_, _≤_}
@@ -9,18 +9,22 @@ use native.Mathlib.Nat.{le-refl, le-trans, mul-zero, mul-one, mul-add, add-mul, 
 use native.Mathlib.Numerals.{add-one}
 use native.Mathlib.Omega.{arith}
 use lib.Dec.{ltb, eqb}
-use lib.IntN.{ℤ}
-use lib.ListN.{length, getD, take}
+use lib.IntN.{ℤ, pos, natAbs}
+use lib.ListN.{length, getD, set, take, replicate}
+use mir.Val.{boolByte}
 use Rattle.std.specs.shelf.Lists.{sum, sumBy}
-use Rattle.std.proofs.shelf.Lists.{take-all, length-map, getD-map}
+use Rattle.std.proofs.shelf.Edits.{fill-by-more}
+use Rattle.std.proofs.shelf.Lists.{take-all, length-map, getD-map, length-set, take-more-set, map-more, take-take, take-map}
 use Rattle.std.proofs.shelf.Sums.{sumBy-cons, sumBy-more, sumBy-take-le, sum-map}
 use Rattle.std.proofs.shelf.Tests.{cases-lt, cases-bool, lt-ltb, ltb-true}
 use Rattle.std.proofs.shelf.Ways.{tells}
 use Rattle.sharing.specs.Laws.{Lawful}
 use Rattle.sharing.specs.LargestRemainder.{bit, tally, rounded-down, remainders, missing, comes-before, rank, largest-remainder-size, largest-remainder}
+use Rattle.sharing.specs.declared.rules.largest_remainder.RoundedDown.{RoundedDown}
+use Rattle.sharing.specs.Rounding.{RoundsDown}
 use Rattle.sharing.proofs.Sums.{up-to, up-to-is, sum-more, sum-all, getD-le-sum}
-use Rattle.sharing.proofs.BySize.{Exact, size-le, apportioned}
-use Rattle.sharing.proofs.Tallies.{tally-more, tally-le, tally-mono, bit-true, bit-false, ranked-below}
+use Rattle.sharing.proofs.BySize.{Exact, size-le, apportioned, parted, nothing, Written, written-all}
+use Rattle.sharing.proofs.Tallies.{tally-more, tally-le, tally-mono, bit-true, bit-false, byte-bit, ranked-below}
 
 -- a place i of remainder a before a place j of remainder b
 first : ℕ → ℕ → ℕ → ℕ → Bool
@@ -201,3 +205,113 @@ bounds q r ws i part few small h =
     let front = sumBy-take-le (λ v. r * v / sum ws) ws (i + 1) in
     let all = down-le r ws part in
     record { product-r = omega arith; product-q = omega arith; floor = omega arith; size = omega arith; floors = omega arith }
+
+-- the first n of a list that is known further
+take-front : (n i : ℕ) (xs : List ℕ) (f : ℕ → ℕ) (ws : List ℕ) → n ≤ i → take i xs ≡ map f (take i ws) → take n xs ≡ map f (take n ws)
+take-front n i xs f ws le is =
+    sym (take-take n i xs le) ∙ ap (take n) is ∙ take-map f n (take i ws) ∙ ap (map f) (take-take n i ws le)
+
+-- How far rounding down has come at place i.
+pub record So-far (q r whole : ℕ) (ws sizes left : List ℕ) (lacks i : ℕ) : Type 0 where
+  pub all : whole ≡ sum ws
+  pub bound : (k : ℕ) → k < length ws → Bounds q r ws k
+  pub room : length ws ≤ 64
+  pub sizes-long : length sizes ≡ 64
+  pub left-long : length left ≡ 64
+  pub sizes-are : (k : ℕ) → k < i → getD sizes k 0 ≡ rounded-down q r ws (getD ws k 0)
+  pub left-are : take i left ≡ map (λ w. r * w % sum ws) (take i ws)
+  pub lacks-is : lacks + sumBy (λ w. r * w / sum ws) (take i ws) ≡ r
+
+pub so-far-none : (q r whole : ℕ) (ws sizes left : List ℕ) → whole ≡ sum ws → r < whole → whole ≤ 2000000000 → q * whole + r ≤ 1000000000000000 → length ws ≤ 64 → length sizes ≡ 64 → length left ≡ 64
+    → So-far q r whole ws sizes left r 0
+so-far-none q r whole ws sizes left all part few small room sizes-long left-long =
+    let same : q * whole ≡ q * sum ws = ap (λ x. q * x) all in
+    record {
+      all = all;
+      bound = λ k h. bounds q r ws k (omega arith) (omega arith) (omega arith) h;
+      room = room;
+      sizes-long = sizes-long;
+      left-long = left-long;
+      sizes-are = λ k h. absurd (omega arith);
+      left-are = refl;
+      lacks-is = omega arith;
+    }
+
+-- what the code computes at place i, in its own terms
+pub record Turn (q r whole : ℕ) (ws : List ℕ) (lacks i : ℕ) : Type 0 where
+  pub product-r : r * getD ws i 0 ≤ 4000000000000000000
+  pub product-q : q * getD ws i 0 ≤ 1000000000000000
+  pub size-is : q * getD ws i 0 + r * getD ws i 0 / whole ≡ rounded-down q r ws (getD ws i 0)
+  pub size : q * getD ws i 0 + r * getD ws i 0 / whole ≤ 1000000000000000
+  pub floor-is : r * getD ws i 0 / whole ≡ r * getD ws i 0 / sum ws
+  pub floor : r * getD ws i 0 / whole ≤ lacks
+
+module _ {q r whole : ℕ} {ws sizes left : List ℕ} {lacks i : ℕ} (s : So-far q r whole ws sizes left lacks i) where
+  pub turn : i < length ws → Turn q r whole ws lacks i
+  turn h =
+      let b = s .bound i h in
+      let floor-is : r * getD ws i 0 / whole ≡ r * getD ws i 0 / sum ws = ap (λ x. r * getD ws i 0 / x) (s .all) in
+      record {
+        product-r = b .product-r;
+        product-q = b .product-q;
+        size-is = ap (λ x. q * getD ws i 0 + x) floor-is;
+        size = omega (arith, b .floor);
+        floor-is = floor-is;
+        floor = omega (arith, b .floors, s .lacks-is);
+      }
+
+  pub so-far-more : i < length ws
+      → So-far q r whole ws (set sizes i (q * getD ws i 0 + r * getD ws i 0 / whole)) (set left i (r * getD ws i 0 % whole)) (lacks - r * getD ws i 0 / whole) (i + 1)
+  so-far-more h =
+      let t = turn h in
+      let w : ℕ = getD ws i 0 in
+      let in-sizes : i < length sizes = omega (arith, s .sizes-long, s .room) in
+      let in-left : i < length left = omega (arith, s .left-long, s .room) in
+      let size : ℕ → ℕ = λ k. rounded-down q r ws (getD ws k 0) in
+      let rest : ℕ → ℕ = λ v. r * v % sum ws in
+      let rest-is : r * w % whole ≡ rest w = ap (λ x. r * w % x) (s .all) in
+      record {
+        all = s .all;
+        bound = s .bound;
+        room = s .room;
+        sizes-long = length-set sizes i _ ∙ s .sizes-long;
+        left-long = length-set left i _ ∙ s .left-long;
+        sizes-are = subst (λ y. (k : ℕ) → k < i + 1 → getD (set sizes i y) k 0 ≡ size k) (sym (t .size-is)) (fill-by-more size sizes i 0 in-sizes (s .sizes-are));
+        left-are = take-more-set left i (r * w % whole) in-left ∙ ap (λ l. l ++ (r * w % whole) ∷ []) (s .left-are) ∙ ap (λ y. map rest (take i ws) ++ y ∷ []) rest-is ∙ sym (map-more rest ws i 0 h);
+        lacks-is = omega (arith, s .lacks-is, t .floor, t .floor-is, sumBy-more (λ v. r * v / sum ws) ws i 0 h);
+      }
+
+  pub rounds-down : length ws ≤ i → RoundsDown q r ws (record { sizes = sizes; remainders = left; missing = lacks })
+  rounds-down done =
+      let front : take (length ws) left ≡ map (λ w. r * w % sum ws) (take (length ws) ws) = take-front (length ws) i left (λ w. r * w % sum ws) ws done (s .left-are) in
+      let floors : sumBy (λ w. r * w / sum ws) (take i ws) ≡ sumBy (λ w. r * w / sum ws) ws = ap (sumBy (λ w. r * w / sum ws)) (take-all i ws done) in
+      record {
+        sizes-long = s .sizes-long;
+        remainders-long = s .left-long;
+        sizes-are = λ k h. s .sizes-are k (omega arith);
+        remainders-are = front ∙ ap (map (λ w. r * w % sum ws)) (take-all (length ws) ws (le-refl (length ws)));
+        missing-is = omega (arith, s .lacks-is);
+      }
+
+-- a rounded share and its extra unit, as the code adds them
+pub size-from : {q r : ℕ} {ws : List ℕ} {d : RoundedDown} {i k extra : ℕ} → RoundsDown q r ws d → i < length ws → k ≡ rank (take (length ws - 0) (d .remainders)) i → extra ≡ boolByte (ltb k (d .missing))
+    → getD (d .sizes) i 0 + extra ≡ largest-remainder-size q r ws i
+size-from {q} {r} {ws} {d} {i} {k} {extra} down h ranked is =
+    let e : length ws - 0 ≡ length ws = omega arith in
+    let place : k ≡ rank (remainders r ws) i = ranked ∙ ap (λ n. rank (take n (d .remainders)) i) e ∙ ap (λ l. rank l i) (down .remainders-are) in
+    let more : extra ≡ bit (ltb (rank (remainders r ws) i) (missing r ws)) = is ∙ byte-bit (ltb k (d .missing)) ∙ ap (λ x. bit (ltb x (d .missing))) place ∙ ap (λ x. bit (ltb (rank (remainders r ws) i) x)) (down .missing-is) in
+    ap (λ x. x + extra) (down .sizes-are i h) ∙ ap (λ x. rounded-down q r ws (getD ws i 0) + x) more
+
+pub size-fits : (n whole : ℕ) (ws : List ℕ) → 0 < whole → whole ≡ sum ws → whole ≤ 2000000000 → n ≤ 1000000000000000 → (k : ℕ) → k < length ws → largest-remainder-size (n / whole) (n % whole) ws k ≤ 1000000000000000
+size-fits n whole ws some all few small k h =
+    let split = parted n whole ws some all in
+    bounds (n / whole) (n % whole) ws k (split .part) (omega arith) (omega (arith, split .back)) h .size
+
+pub largest-remainder-written : {p : ℤ} {ws : List ℕ} {at : List ℤ} {i : ℕ} (n whole : ℕ) → Written largest-remainder-size p (n / whole) (n % whole) ws at i → length ws ≤ i → n ≡ natAbs p → whole ≡ sum ws → 0 < whole
+    → take (length ws) at ≡ largest-remainder p ws
+unfolding largest-remainder
+largest-remainder-written n whole w done is all some = written-all n whole w done is all some
+
+pub largest-remainder-nothing : (p : ℤ) (ws : List ℕ) → sum ws ≡ 0 → length ws ≤ 64 → take (length ws) (replicate 64 (pos 0)) ≡ largest-remainder p ws
+unfolding largest-remainder
+largest-remainder-nothing p ws = nothing largest-remainder-size p ws

@@ -1,16 +1,17 @@
 -- The sizes of the running rule are exact. Assumes nothing.
 use mathlib.Core.Path.{_≡_, refl, sym, ap, _∙_}
 use mathlib.Core.List.{List}
-use Prim.Native.Nat.{ℕ, _+_, _-_, _*_, _/_, _<_, _≤_}
+use Prim.Native.Nat.{ℕ, _+_, _-_, _*_, _/_, _%_, _<_, _≤_}
 use native.Mathlib.Nat.{le-refl, mul-zero, mul-add, add-mul, mul-comm, mul-assoc, mul-le-mul, mul-le-mul-left, zero-div, div-add-mod, mod-lt, mul-div-cancel}
 use native.Mathlib.Omega.{arith}
-use lib.IntN.{ℤ}
-use lib.ListN.{length, getD, take}
+use lib.IntN.{ℤ, pos, natAbs}
+use lib.ListN.{length, getD, set, take, replicate}
 use Rattle.std.specs.shelf.Lists.{sum}
 use Rattle.sharing.specs.Laws.{Lawful}
 use Rattle.sharing.specs.Running.{earned, running-size, running}
 use Rattle.sharing.proofs.Sums.{up-to, up-to-is, sum-more, sum-all, sum-upto, div-mono}
-use Rattle.sharing.proofs.BySize.{Exact, size-le, apportioned}
+use Rattle.sharing.specs.Sizes.{signed}
+use Rattle.sharing.proofs.BySize.{Exact, size-le, apportioned, parted, nothing, Written, written-none, written-more, written-all}
 
 -- a place whose weight is w, with b before it and c up to it
 module _ (q r whole : ℕ) (some : 0 < whole) (b c w : ℕ) (next : c ≡ b + w) where
@@ -92,3 +93,75 @@ bounds q r ws i part few small h =
       order = rises q r (sum ws) (some q r ws part) (sum (take i ws)) c w next;
       size = omega (arith, size-le running-size running-exact q r ws i part h);
     }
+
+-- How far the code has come at place i: the weight so far, what it has earned, and the shares written.
+pub record So-far (p : ℤ) (q r whole : ℕ) (ws : List ℕ) (at : List ℤ) (upto gained i : ℕ) : Type 0 where
+  pub all : whole ≡ sum ws
+  pub bound : (k : ℕ) → k < length ws → Bounds q r ws k
+  pub weight : upto ≡ sum (take i ws)
+  pub gain : gained ≡ earned r ws i
+  pub shares : Written running-size p q r ws at i
+
+pub so-far-none : (p : ℤ) (n whole : ℕ) (ws : List ℕ) (at : List ℤ) → 0 < whole → whole ≡ sum ws → whole ≤ 2000000000 → n ≤ 1000000000000000 → length ws ≤ 64 → length at ≡ 64
+    → So-far p (n / whole) (n % whole) whole ws at 0 0 0
+so-far-none p n whole ws at some all few small room long =
+    let split = parted n whole ws some all in
+    record {
+      all = all;
+      bound = λ k h. bounds (n / whole) (n % whole) ws k (split .part) (omega arith) (omega (arith, split .back)) h;
+      weight = refl;
+      gain = sym (ap (λ x. x / sum ws) (mul-zero (n % whole)) ∙ zero-div (sum ws));
+      shares = written-none long room;
+    }
+
+-- what the code computes at place i, in its own terms
+pub record Turn (q r whole : ℕ) (ws : List ℕ) (upto gained i : ℕ) : Type 0 where
+  pub weight : upto + getD ws i 0 ≡ sum (take (i + 1) ws)
+  pub weight-le : upto + getD ws i 0 ≤ 2000000000
+  pub product-r : r * (upto + getD ws i 0) ≤ 4000000000000000000
+  pub product-q : q * getD ws i 0 ≤ 1000000000000000
+  pub gain : r * (upto + getD ws i 0) / whole ≡ earned r ws (i + 1)
+  pub order : gained ≤ r * (upto + getD ws i 0) / whole
+  pub size-is : q * getD ws i 0 + (r * (upto + getD ws i 0) / whole - gained) ≡ running-size q r ws i
+  pub size : q * getD ws i 0 + (r * (upto + getD ws i 0) / whole - gained) ≤ 1000000000000000
+
+module _ {p : ℤ} {q r whole : ℕ} {ws : List ℕ} {at : List ℤ} {upto gained i : ℕ} (s : So-far p q r whole ws at upto gained i) where
+  pub turn : i < length ws → Turn q r whole ws upto gained i
+  turn h =
+      let b = s .bound i h in
+      let w : ℕ = getD ws i 0 in
+      let weight : upto + w ≡ sum (take (i + 1) ws) = omega (arith, b .next, s .weight) in
+      let product : r * (upto + w) ≡ r * sum (take (i + 1) ws) = ap (λ x. r * x) weight in
+      let gain : r * (upto + w) / whole ≡ earned r ws (i + 1) = ap (λ x. x / whole) product ∙ ap (λ x. r * sum (take (i + 1) ws) / x) (s .all) in
+      let is : q * w + (r * (upto + w) / whole - gained) ≡ running-size q r ws i = ap (λ x. q * w + (x - gained)) gain ∙ ap (λ x. q * w + (earned r ws (i + 1) - x)) (s .gain) in
+      record {
+        weight = weight;
+        weight-le = omega (arith, b .upto);
+        product-r = omega (arith, b .product-r);
+        product-q = b .product-q;
+        gain = gain;
+        order = omega (arith, b .order, s .gain);
+        size-is = is;
+        size = omega (arith, b .size);
+      }
+
+  pub so-far-more : (z : ℤ) → i < length ws → z ≡ signed p (q * getD ws i 0 + (r * (upto + getD ws i 0) / whole - gained))
+      → So-far p q r whole ws (set at i z) (upto + getD ws i 0) (r * (upto + getD ws i 0) / whole) (i + 1)
+  so-far-more z h is =
+      let t = turn h in
+      record {
+        all = s .all;
+        bound = s .bound;
+        weight = t .weight;
+        gain = t .gain;
+        shares = written-more z (s .shares) h (is ∙ ap (signed p) (t .size-is));
+      }
+
+pub running-written : {p : ℤ} {ws : List ℕ} {at : List ℤ} {upto gained i : ℕ} (n whole : ℕ) → So-far p (n / whole) (n % whole) whole ws at upto gained i → length ws ≤ i → n ≡ natAbs p → 0 < whole
+    → take (length ws) at ≡ running p ws
+unfolding running
+running-written n whole s done is some = written-all n whole (s .shares) done is (s .all) some
+
+pub running-nothing : (p : ℤ) (ws : List ℕ) → sum ws ≡ 0 → length ws ≤ 64 → take (length ws) (replicate 64 (pos 0)) ≡ running p ws
+unfolding running
+running-nothing p ws = nothing running-size p ws

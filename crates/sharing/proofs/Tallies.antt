@@ -6,6 +6,7 @@ use Prim.Native.Nat.{ℕ, zero, suc, _+_, _-_, _<_, _≤_}
 use native.Mathlib.Numerals.{add-one}
 use native.Mathlib.Omega.{arith}
 use lib.Dec.{ltb}
+use mir.Val.{boolByte}
 use Rattle.std.proofs.shelf.Tests.{lt-ltb, le-ltb, ltb-true, ltb-false, cases-lt, cases-bool, both-ways}
 use Rattle.sharing.specs.LargestRemainder.{bit, tally}
 
@@ -21,6 +22,11 @@ bit-true b e = ap (λ x. bit x) e
 
 pub bit-false : (b : Bool) → b ≡ false → bit b ≡ 0
 bit-false b e = ap (λ x. bit x) e
+
+-- a test as the code counts it
+pub byte-bit : (b : Bool) → boolByte b ≡ bit b
+byte-bit true = refl
+byte-bit false = refl
 
 bit-mono : (a b : Bool) → (a ≡ true → b ≡ true) → bit a ≤ bit b
 bit-mono true b h = omega (arith, bit-true b (h refl))

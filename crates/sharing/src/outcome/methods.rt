@@ -3,9 +3,9 @@ ghost use mathlib.Core.Path.{_≡_};
 ghost use lib.ListN.{take};
 ghost use Rattle.std.specs.declared.option.Option.the-variants.{Some};
 ghost use Rattle.sharing.specs.Outcome.{held, message-of, number-of};
+use super::super::limits::MOST_WEIGHTS;
 use super::Shares;
 use super::SharingFault;
-use super::super::limits::MOST_WEIGHTS;
 use std::fmt;
 
 impl Shares {

@@ -36,11 +36,7 @@ pub impl SharingRule for LargestRemainder as LargestRemainderSharing {
         let down = round_down(size / whole, size % whole, whole, weights);
         let remainders = &down.remainders[0..weights.len()];
         for i in 0..weights.len() {
-            let extra = if rank_of(remainders, i) < down.missing {
-                1
-            } else {
-                0
-            };
+            let extra = u64::from(rank_of(remainders, i) < down.missing);
             at[i] = with_sign(pool, down.sizes[i] + extra);
         }
         Ok(Shares::new(at, weights.len()))
@@ -82,9 +78,7 @@ fn rank_of(remainders: &[u64], i: usize) -> u64
     let mut before = 0u64;
     for (j, other) in remainders.iter().enumerate() {
         let ahead = if *other == own { j < i } else { *other > own };
-        if ahead {
-            before += 1;
-        }
+        before += u64::from(ahead);
     }
     before
 }

@@ -1,12 +1,10 @@
-use Prim.Native.Nat.{ℕ, _/_, _%_, _<_}
-use mathlib.Core.Path.{_≡_}
-use lib.IntN.{pos}
-use lib.ListN.{length, getD}
-use Rattle.sharing.specs.Sizes.{signed}
+use Prim.Native.Nat.{ℕ, _/_, _%_, _<_, _≤_}
+use lib.ListN.{length}
 use Rattle.sharing.specs.LargestRemainder.{largest-remainder-size}
+use Rattle.sharing.proofs.BySize.{Written}
 use Rattle.sharing.proofs.rules.largest_remainder.LargestRemainderSharing.share.Given as given
 
 abbrev pub Inv-loop-i : given.InvT-loop-i
 Inv-loop-i l =
-    (length (l .at) ≡ 64)
-    × ((k : ℕ) → k < l .i → getD (l .at) k (pos 0) ≡ signed (l .pool) (largest-remainder-size (l .size / l .whole) (l .size % l .whole) (l .weights) k))
+    Written largest-remainder-size (l .pool) (l .size / l .whole) (l .size % l .whole) (l .weights) (l .at) (l .i)
+    × ((k : ℕ) → k < length (l .weights) → largest-remainder-size (l .size / l .whole) (l .size % l .whole) (l .weights) k ≤ 1000000000000000)
