@@ -2,12 +2,22 @@
 mod parties;
 mod table;
 
+ghost use mathlib.Core.Path.{_≡_};
+ghost use mathlib.Core.List.{map};
+ghost use Rattle.std.specs.Of.Vec.{vec-items};
+ghost use Rattle.std.specs.Vec.{made};
+ghost use Rattle.hourbook.specs.Entered.{entered};
 use parties::Cents;
+use parties::CentsQuantity;
 use parties::Party;
+use parties::PartyRecipient;
 use sharing::LargestRemainder;
 use sharing::LargestRemainderSharing;
 use sharing::Running;
 use sharing::RunningSharing;
+use sharing::share_out;
+use std::alloc::AllocError;
+use std::alloc::Global;
 use std::io;
 use std::io::BufWriter;
 use std::io::Write;
@@ -20,6 +30,7 @@ struct Sample {
     demands: &'static [u32],
 }
 
+// The first is the offset of the sample hour.
 const SAMPLES: [Sample; 6] = [
     Sample {
         pool: Cents(5000),
@@ -47,25 +58,29 @@ const SAMPLES: [Sample; 6] = [
     },
 ];
 
+// A party for each demand, with nothing due yet.
+fn enter(heap: Global, demands: &[u32]) -> Result<Vec<Party>, AllocError>
+    ensures { λ r. ⌜ made r (λ v. vec-items v ≡ map entered (now (demands .entry))) ⌝ }
+{
+    let mut parties = Vec::with_capacity(heap, demands.len())?;
+    for demand in demands {
+        parties.push(Party {
+            demand: *demand,
+            due: Cents(0),
+        })?;
+    }
+    Ok(parties)
+}
+
 fn main(rt: LibcRuntime) -> io::Result<()> {
     let mut out = BufWriter::new(rt.stdout());
     print_header(&mut out)?;
-    for sample in SAMPLES.iter() {
-        let mut parties = Vec::with_capacity(rt.alloc(), sample.demands.len())?;
-        for demand in sample.demands {
-            parties.push(Party {
-                demand: *demand,
-                due: Cents(0),
-            })?;
-        }
-        print_row(
-            &mut out,
-            "largest remainder",
-            &LargestRemainder,
-            sample.pool,
-            &mut parties,
-        )?;
-        print_row(&mut out, "running", &Running, sample.pool, &mut parties)?;
+    for Sample { pool, demands } in SAMPLES.iter() {
+        let mut parties = enter(rt.alloc(), demands)?;
+        let outcome = share_out(&LargestRemainder, *pool, &mut parties);
+        print_row(&mut out, *pool, "largest remainder", &parties, outcome)?;
+        let outcome = share_out(&Running, *pool, &mut parties);
+        print_row(&mut out, *pool, "running", &parties, outcome)?;
     }
     out.flush()
 }

@@ -1,33 +1,33 @@
-// A table of pools shared among parties.
+// A table of shared pools: what no contract can speak of, held to the stored output.
 use super::parties::Cents;
 use super::parties::CentsQuantity;
 use super::parties::Party;
 use super::parties::PartyRecipient;
-use sharing::SharingRule;
-use sharing::share_out;
+use sharing::Quantity;
+use sharing::Recipient;
+use sharing::SharingFault;
 use std::io;
 use std::io::Write;
 
-// The most parties that a row has room for.
+// How many weights a row has room for.
 const COLUMNS: usize = 3;
 
 pub fn print_header(out: &mut impl Write) -> io::Result<()> {
     writeln!(out, "  pool  rule               weights         shares")
 }
 
-// One row: a pool, shared among parties by their demands.
-pub fn print_row<R: SharingRule>(
+// A pool with its rule, the parties' weights, and their shares or the refusal.
+pub fn print_row(
     out: &mut impl Write,
-    name: &str,
-    rule: &R,
     pool: Cents,
-    parties: &mut [Party],
+    rule: &str,
+    parties: &[Party],
+    outcome: Result<(), SharingFault>,
 ) -> io::Result<()> {
-    let outcome = share_out(rule, pool, parties);
-    write!(out, "{:>6}  {name:<17}", pool.count())?;
+    write!(out, "{:>6}  {rule:<17}", pool.count())?;
     for i in 0..COLUMNS {
         match parties.get(i) {
-            Some(party) => write!(out, "{:>4}", party.demand)?,
+            Some(party) => write!(out, "{:>4}", party.weight())?,
             None => write!(out, "    ")?,
         }
     }
