@@ -1,20 +1,18 @@
 -- Shares that are lawful for the weights in reverse are lawful, in reverse, for the weights. Assumes nothing.
 use mathlib.Core.Path.{_≡_, refl, sym, ap, _∙_, subst}
 use mathlib.Core.List.{List, [], _∷_, _++_, reverse, reverseAux-eq}
-use Prim.Native.Nat.{ℕ, _+_, _-_, _<_, _≤_}
+use Prim.Native.Nat.{ℕ, _+_, _-_, _<_}
 use native.Mathlib.Omega.{arith}
 use lib.IntN.{ℤ, pos, _+ℤ_}
 use lib.ListN.{length, getD, take, set}
 use Rattle.std.specs.shelf.Lists.{folded, sum}
-use Rattle.std.proofs.shelf.Lists.{length-reverse, getD-reverse, reverse-reverse, take-more, take-more-set, take-all}
+use Rattle.std.proofs.shelf.Lists.{length-reverse, getD-reverse, reverse-reverse, take-more, take-more-set}
 use Rattle.std.proofs.shelf.Signed.{ints}
 use Rattle.std.proofs.shelf.Sums.{folded-push, sumBy-push, sumBy-cons}
-use Rattle.std.specs.declared.result.Result.{Result}
-use Rattle.std.specs.declared.result.Result.the-variants.{Ok, Err}
 use Rattle.sharing.specs.declared.outcome.SharingFault.{SharingFault}
 use Rattle.sharing.specs.declared.outcome.SharingFault.the-variants.{Limit, NoWeight}
 use Rattle.sharing.specs.Limits.{Within, Shareable}
-use Rattle.sharing.specs.Laws.{total, Near, Apportioned, Lawful}
+use Rattle.sharing.specs.Laws.{total, Near, Apportioned}
 use Rattle.sharing.specs.Outcome.{Refused}
 
 reverse-cons : {X : Type 0} (x : X) (xs : List X) → reverse (x ∷ xs) ≡ reverse xs ++ x ∷ []

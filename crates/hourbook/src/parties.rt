@@ -1,5 +1,4 @@
 // Money, and the parties that take it.
-ghost use lib.IntN.{ℤ};
 use sharing::Quantity;
 use sharing::Recipient;
 

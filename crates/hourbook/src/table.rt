@@ -12,12 +12,12 @@ use std::io::Write;
 // How many weights a row has room for.
 const COLUMNS: usize = 3;
 
-pub fn print_header(out: &mut impl Write) -> io::Result<()> {
+pub(super) fn print_header(out: &mut impl Write) -> io::Result<()> {
     writeln!(out, "  pool  rule               weights         shares")
 }
 
 // A pool with its rule, the parties' weights, and their shares or the refusal.
-pub fn print_row(
+pub(super) fn print_row(
     out: &mut impl Write,
     pool: Cents,
     rule: &str,

@@ -8,7 +8,7 @@ use native.Mathlib.Nat.{zero-add, mul-add, mul-comm, mul-le-mul-left, lt-of-mul-
 use native.Mathlib.Numerals.{add-one}
 use native.Mathlib.Omega.{arith}
 use lib.Dec.{eqb}
-use lib.IntN.{ℤ, pos, negsuc, natAbs, _+ℤ_, _-ℤ_, _*ℤ_}
+use lib.IntN.{ℤ, pos, negsuc, natAbs, _+ℤ_}
 use lib.ListN.{length, getD, set, take, replicate}
 use Rattle.std.specs.Iters.{counting}
 use Rattle.std.specs.shelf.Lists.{sum}
@@ -18,8 +18,7 @@ use Rattle.std.proofs.shelf.Lists.{length-set, length-take-le, getD-take, lengt
 use Rattle.std.proofs.shelf.Signed.{ints}
 use Rattle.std.proofs.shelf.Sums.{folded-push}
 use Rattle.std.proofs.shelf.Tests.{cases-lt, eq-eqb, ne-eqb}
-use Rattle.sharing.specs.Limits.{Shareable}
-use Rattle.sharing.specs.Laws.{total, Near, Apportioned, Lawful}
+use Rattle.sharing.specs.Laws.{total, Near, Apportioned}
 use Rattle.sharing.specs.Sizes.{signed, by-place}
 use Rattle.sharing.proofs.Sums.{up-to, up-to-same, up-to-none, getD-le-sum}
 

@@ -21,6 +21,10 @@ shared-as f r p q ws vs e d h =
     let Q : List ℕ → Type 0 = λ us. Shared q us (f q us) r in
     subst Q d (subst P e h)
 
+-- `&xs[0..n]` as the checker reads it
+pub part-from-0 : {X : Type 0} (n : ℕ) (xs : List X) {ys : List X} → take n xs ≡ ys → take (n - 0) xs ≡ ys
+part-from-0 n xs is = let e : n - 0 ≡ n = omega arith in ap (λ k. take k xs) e ∙ is
+
 -- the weights that are collected
 module _ {X : Type 0} (weighs : X → ℕ) (to : List X) where
   pub weights-more : (weights : List ℕ) (i w : ℕ) (x : X) → i < length to → i < length weights → take i weights ≡ map weighs (take i to)
@@ -29,9 +33,9 @@ module _ {X : Type 0} (weighs : X → ℕ) (to : List X) where
       take-more-set weights i w k ∙ ap (λ l. l ++ w ∷ []) is ∙ ap (λ v. map weighs (take i to) ++ v ∷ []) (new ∙ ap weighs read) ∙ sym (map-more weighs to i x h)
 
   pub weights-all : (weights : List ℕ) (i : ℕ) → length to ≤ i → i ≤ length to → take i weights ≡ map weighs (take i to)
-      → take (length to - 0) weights ≡ map weighs to
+      → take (length to) weights ≡ map weighs to
   weights-all weights i done within is =
-      let e : length to - 0 ≡ i = omega arith in
+      let e : length to ≡ i = omega arith in
       ap (λ k. take k weights) e ∙ is ∙ ap (map weighs) (take-all i to done)
 
 module _ {X U : Type 0} (having : X → U → X) (of : ℤ → U) where

@@ -24,6 +24,7 @@ use Rattle.sharing.specs.declared.rules.largest_remainder.RoundedDown.{Rounded
 use Rattle.sharing.specs.Rounding.{RoundsDown}
 use Rattle.sharing.proofs.Sums.{up-to, up-to-is, sum-more, sum-all, getD-le-sum}
 use Rattle.sharing.proofs.BySize.{Exact, size-le, apportioned, parted, nothing, Written, written-all}
+use Rattle.sharing.proofs.Hands.{part-from-0}
 use Rattle.sharing.proofs.Tallies.{tally-more, tally-le, tally-mono, bit-true, bit-false, byte-bit, ranked-below}
 
 -- a place i of remainder a before a place j of remainder b
@@ -297,8 +298,7 @@ module _ {q r whole : ℕ} {ws sizes left : List ℕ} {lacks i : ℕ} (s : So-fa
 pub size-from : {q r : ℕ} {ws : List ℕ} {d : RoundedDown} {i k extra : ℕ} → RoundsDown q r ws d → i < length ws → k ≡ rank (take (length ws - 0) (d .remainders)) i → extra ≡ boolByte (ltb k (d .missing))
     → getD (d .sizes) i 0 + extra ≡ largest-remainder-size q r ws i
 size-from {q} {r} {ws} {d} {i} {k} {extra} down h ranked is =
-    let e : length ws - 0 ≡ length ws = omega arith in
-    let place : k ≡ rank (remainders r ws) i = ranked ∙ ap (λ n. rank (take n (d .remainders)) i) e ∙ ap (λ l. rank l i) (down .remainders-are) in
+    let place : k ≡ rank (remainders r ws) i = ranked ∙ ap (λ l. rank l i) (part-from-0 (length ws) (d .remainders) (down .remainders-are)) in
     let more : extra ≡ bit (ltb (rank (remainders r ws) i) (missing r ws)) = is ∙ byte-bit (ltb k (d .missing)) ∙ ap (λ x. bit (ltb x (d .missing))) place ∙ ap (λ x. bit (ltb (rank (remainders r ws) i) x)) (down .missing-is) in
     ap (λ x. x + extra) (down .sizes-are i h) ∙ ap (λ x. rounded-down q r ws (getD ws i 0) + x) more
 

@@ -7,7 +7,7 @@ use native.Mathlib.Numerals.{add-one}
 use native.Mathlib.Omega.{arith}
 use lib.Dec.{ltb}
 use mir.Val.{boolByte}
-use Rattle.std.proofs.shelf.Tests.{lt-ltb, le-ltb, ltb-true, ltb-false, cases-lt, cases-bool, both-ways}
+use Rattle.std.proofs.shelf.Tests.{lt-ltb, le-ltb, cases-lt, cases-bool}
 use Rattle.sharing.specs.LargestRemainder.{bit, tally}
 
 pub tally-more : (p : ℕ → Bool) (n : ℕ) → tally p (n + 1) ≡ tally p n + bit (p n)

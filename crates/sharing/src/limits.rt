@@ -1,5 +1,4 @@
 // The limits of sharing, and what every rule tests first.
-ghost use mathlib.Core.Path.{_≡_};
 ghost use Rattle.sharing.specs.Outcome.{Weighed};
 use super::outcome::SharingFault;
 

@@ -1,7 +1,8 @@
 // Who takes shares, and the one place where a pool is shared among them.
 ghost use mathlib.Core.Path.{_≡_};
 ghost use mathlib.Core.List.{map};
-ghost use Prim.Native.Nat.{ℕ};
+ghost use Prim.Native.Nat.{ℕ, _≤_};
+ghost use lib.ListN.{length, take};
 ghost use Rattle.std.specs.Vec.{made, refused};
 ghost use Rattle.sharing.specs.Handing.{handed};
 ghost use Rattle.sharing.specs.Laws.{Apportioned};
@@ -51,14 +52,30 @@ pub fn share_out<R: SharingRule, X: Recipient>(
     if to.len() > MOST_WEIGHTS {
         return Err(SharingFault::Limit);
     }
+    let weights = weights_of(to);
+    let answer = rule.share(pool.count(), &weights[0..to.len()])?;
+    hand_out(answer.as_slice(), to);
+    Ok(())
+}
+
+// The recipients' weights, at the front of an array.
+fn weights_of<X: Recipient>(to: &[X]) -> [u32; MOST_WEIGHTS]
+    requires { ⌜ length (now to) ≤ 64 ⌝ }
+    ensures { λ r. ⌜ take (length (now (to .entry))) r ≡ map (X·Recipient .weighs) (now (to .entry)) ⌝ }
+{
     let mut weights = [0u32; MOST_WEIGHTS];
     for (i, x) in to.iter().enumerate() {
         weights[i] = x.weight();
     }
-    let answer = rule.share(pool.count(), &weights[0..to.len()])?;
-    let shares = answer.as_slice();
+    weights
+}
+
+// Gives each recipient the share of its place.
+fn hand_out<X: Recipient>(shares: &[i64], to: &mut [X])
+    requires { ⌜ length (now shares) ≡ length (now to) ⌝ }
+    ensures { λ _. ⌜ now (to .exit) ≡ handed (X·Recipient .having) (Unit·Quantity .of) (now (to .entry)) (now (shares .entry)) ⌝ }
+{
     for (i, x) in to.iter_mut().enumerate() {
         x.take(X::Unit::new(shares[i]));
     }
-    Ok(())
 }

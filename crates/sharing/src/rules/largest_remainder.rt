@@ -16,7 +16,7 @@ use super::with_sign;
 pub struct LargestRemainder;
 
 // Each share's size rounded down, what the rounding left of it, and the units that are missing in all.
-#[derive(Clone, Copy)]
+#[derive(Drop)]
 struct RoundedDown {
     sizes: [u64; MOST_WEIGHTS],
     remainders: [u64; MOST_WEIGHTS],

@@ -1,18 +1,24 @@
-use mathlib.Core.Path.{_≡_, ap, _∙_}
-use Prim.Native.Nat.{ℕ}
+use mathlib.Core.Path.{_≡_, ap}
+use mathlib.Core.List.{List}
+use Prim.Native.Nat.{ℕ, _≤_, _<_}
 use native.Mathlib.Omega.{arith}
-use borrow.Author.Needs.{needs}
 use borrow.Author.Count.{below-more}
-use lib.ListN.{length, take}
-use lib.IntN.{pos, natAbs}
+use lib.IntN.{ℤ, natAbs}
+use lib.ListN.{length, getD, take}
 use mir.Val.{ofZ}
 use mir.Syntax.{w64}
 use Rattle.std.specs.shelf.Lists.{sum}
 use Rattle.std.proofs.shelf.Signed.{ints}
-use Rattle.sharing.specs.Limits.{Within}
+use Rattle.sharing.specs.Limits.{most-pool, most-weights, most-weight, most-total, Within}
 use Rattle.sharing.proofs.Sums.{sum-more, sum-all}
 use Rattle.sharing.proofs.limits.total_weight.Needs as need
 use Rattle.sharing.proofs.limits.total_weight.Needs.{else-whole-eq0·by·then-whole-eq0·else-pool-ne0, else-whole-eq0·by·else-whole-eq0}
+
+-- all tests are passed, once the loop has seen every weight
+all-within : (p : ℤ) (ws : List ℕ) (i whole : ℕ) → natAbs p ≤ most-pool → length ws ≤ most-weights → length ws ≤ i → ((k : ℕ) → k < i → getD ws k 0 ≤ most-weight) → whole ≡ sum (take i ws) → whole ≤ most-total
+    → Within p ws
+all-within p ws i whole pool count done each is few =
+    record { pool = pool; count = count; each = λ k h. each k (omega arith); whole = omega (arith, sum-all ws i done) }
 
 pub loop-w-again : need.loop-w-again
 loop-w-again c =
@@ -21,29 +27,19 @@ loop-w-again c =
 
 pub returns-then-whole-gt-MOST-TOTAL : need.returns-then-whole-gt-MOST-TOTAL
 returns-then-whole-gt-MOST-TOTAL c within =
-    omega (arith, sum-all (c .args .weights .now) (c .loop-w .w-index) (c .loop-w-test .left))
+    omega (arith, within .whole, sum-all (c .args .weights .now) (c .loop-w .w-index) (c .loop-w-test .left))
 
 pub returns-then-pool-ne0 : need.returns-then-pool-ne0
 returns-then-pool-ne0 c =
     let e = sum-all (c .args .weights .now) (c .loop-w .w-index) (c .loop-w-test .left) in (
-      record {
-        pool = omega (arith, ints);
-        count = c .if-weights-gt-MOST-WEIGHTS .left;
-        each = λ i h. c .loop-w .inv .2 i (omega arith);
-        whole = omega arith;
-      },
+      all-within (c .args .pool) (c .args .weights .now) (c .loop-w .w-index) (c .loop-w .whole) (omega (arith, ints)) (c .if-weights-gt-MOST-WEIGHTS .left) (c .loop-w-test .left) (c .loop-w .inv .2) (c .loop-w .inv .0) (omega arith),
       λ shareable. c .if-pool-ne0 .taken (ap (ofZ w64) (shareable (omega arith))),
     )
 
 pub returns : need.returns
 returns c =
     let e = sum-all (c .args .weights .now) (c .loop-w .w-index) (c .loop-w-test .left) in (
-      record {
-        pool = omega (arith, ints);
-        count = c .if-weights-gt-MOST-WEIGHTS .left;
-        each = λ i h. c .loop-w .inv .2 i (omega arith);
-        whole = omega arith;
-      },
+      all-within (c .args .pool) (c .args .weights .now) (c .loop-w .w-index) (c .loop-w .whole) (omega (arith, ints)) (c .if-weights-gt-MOST-WEIGHTS .left) (c .loop-w-test .left) (c .loop-w .inv .2) (c .loop-w .inv .0) (omega arith),
       (λ none. elim (c .else-whole-eq0 .came) [ else-whole-eq0·by·then-whole-eq0·else-pool-ne0 w ↦ omega (arith, ints, w .if-pool-ne0 .left) | else-whole-eq0·by·else-whole-eq0 w ↦ absurd (w .if-whole-eq0 .left (omega arith)) ]),
       omega arith,
     )

@@ -4,7 +4,6 @@ use Prim.Native.Nat.{ℕ, _+_}
 use native.Mathlib.Omega.{arith}
 use lib.Dec.{ltb}
 use lib.ListN.{getD}
-use mir.Val.{boolByte}
 use Rattle.std.proofs.shelf.Tests.{eq-eqb, ne-eqb}
 use Rattle.sharing.specs.LargestRemainder.{bit, comes-before, tally}
 use Rattle.sharing.proofs.Tallies.{tally-le, tally-more, bit-le, byte-bit}

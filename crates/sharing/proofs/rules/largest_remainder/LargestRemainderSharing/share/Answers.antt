@@ -9,7 +9,7 @@ use Rattle.std.proofs.shelf.Lists.{length-replicate}
 use Rattle.std.proofs.shelf.Signed.{ints, toZ-ofZ}
 use Rattle.sharing.specs.Sizes.{signed}
 use Rattle.sharing.specs.LargestRemainder.{largest-remainder}
-use Rattle.sharing.proofs.BySize.{parted, written-none, written-more}
+use Rattle.sharing.proofs.BySize.{written-none, written-more}
 use Rattle.sharing.proofs.RemainderSizes.{size-from, size-fits, largest-remainder-written, largest-remainder-nothing}
 use Rattle.sharing.proofs.Hands.{shared-as}
 use Rattle.sharing.proofs.rules.largest_remainder.LargestRemainderSharing.share.Needs as need
