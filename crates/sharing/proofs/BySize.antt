@@ -18,6 +18,7 @@ use Rattle.std.proofs.shelf.Lists.{length-set, length-take-le, getD-take, lengt
 use Rattle.std.proofs.shelf.Signed.{ints}
 use Rattle.std.proofs.shelf.Sums.{folded-push}
 use Rattle.std.proofs.shelf.Tests.{cases-lt, eq-eqb, ne-eqb}
+use Rattle.sharing.specs.Limits.{most-weights}
 use Rattle.sharing.specs.Laws.{total, Near, Apportioned}
 use Rattle.sharing.specs.Sizes.{signed, by-place}
 use Rattle.sharing.proofs.Sums.{up-to, up-to-same, up-to-none, getD-le-sum}
@@ -130,20 +131,20 @@ module _ (size : ℕ → ℕ → List ℕ → ℕ → ℕ) (p : ℤ) (ws : List 
       ∙ ap (λ x. signed p (size (natAbs p / x) (natAbs p % x) ws k)) all ∙ ap (signed p) (sym (sized-some (omega arith) k)))
 
   -- an array of zeros holds them where there is no weight
-  pub nothing : sum ws ≡ 0 → length ws ≤ 64 → take (length ws) (replicate 64 (pos 0)) ≡ by-place size p ws
+  pub nothing : sum ws ≡ 0 → length ws ≤ most-weights → take (length ws) (replicate most-weights (pos 0)) ≡ by-place size p ws
   nothing none room =
-      take-replicate (length ws) 64 (pos 0) room
+      take-replicate (length ws) most-weights (pos 0) room
       ∙ fill-by-all (λ i. signed p (sized i)) (replicate (length ws) (pos 0)) (length ws) (pos 0) (length-replicate (length ws) (pos 0))
       (λ k h. getD-replicate (length ws) k (pos 0) (pos 0) h ∙ sym (ap (signed p) (sized-none none k) ∙ signed-zero p))
 
 -- The first i shares are written to the array `at`, of which as many are used as there are weights.
 pub record Written (size : ℕ → ℕ → List ℕ → ℕ → ℕ) (p : ℤ) (q r : ℕ) (ws : List ℕ) (at : List ℤ) (i : ℕ) : Type 0 where
-  pub long : length at ≡ 64
-  pub room : length ws ≤ 64
+  pub long : length at ≡ most-weights
+  pub room : length ws ≤ most-weights
   pub each : (k : ℕ) → k < i → getD at k (pos 0) ≡ signed p (size q r ws k)
 
 module _ {size : ℕ → ℕ → List ℕ → ℕ → ℕ} {p : ℤ} {ws : List ℕ} {at : List ℤ} where
-  pub written-none : {q r : ℕ} → length at ≡ 64 → length ws ≤ 64 → Written size p q r ws at 0
+  pub written-none : {q r : ℕ} → length at ≡ most-weights → length ws ≤ most-weights → Written size p q r ws at 0
   written-none long room = record { long = long; room = room; each = λ k h. absurd (omega arith) }
 
   pub written-more : {q r i : ℕ} (z : ℤ) → Written size p q r ws at i → i < length ws → z ≡ signed p (size q r ws i) → Written size p q r ws (set at i z) (i + 1)

@@ -18,6 +18,7 @@ use Rattle.std.proofs.shelf.Lists.{take-all, length-map, getD-map, length-set, 
 use Rattle.std.proofs.shelf.Sums.{sumBy-cons, sumBy-more, sumBy-take-le, sum-map}
 use Rattle.std.proofs.shelf.Tests.{cases-lt, cases-bool, lt-ltb, ltb-true}
 use Rattle.std.proofs.shelf.Ways.{tells}
+use Rattle.sharing.specs.Limits.{most-pool, most-weights, most-total}
 use Rattle.sharing.specs.Laws.{Lawful}
 use Rattle.sharing.specs.LargestRemainder.{bit, tally, rounded-down, remainders, missing, comes-before, rank, largest-remainder-size, largest-remainder}
 use Rattle.sharing.specs.declared.rules.largest_remainder.RoundedDown.{RoundedDown}
@@ -188,18 +189,18 @@ largest-remainder-lawful p ws = apportioned largest-remainder-size p ws largest-
 
 -- what the code computes at place i is in bounds
 pub record Bounds (q r : ℕ) (ws : List ℕ) (i : ℕ) : Type 0 where
-  pub product-r : r * getD ws i 0 ≤ 4000000000000000000
-  pub product-q : q * getD ws i 0 ≤ 1000000000000000
-  pub floor : rounded-down q r ws (getD ws i 0) ≤ 1000000000000000
-  pub size : largest-remainder-size q r ws i ≤ 1000000000000000
+  pub product-r : r * getD ws i 0 ≤ most-total * most-total
+  pub product-q : q * getD ws i 0 ≤ most-pool
+  pub floor : rounded-down q r ws (getD ws i 0) ≤ most-pool
+  pub size : largest-remainder-size q r ws i ≤ most-pool
   -- the floors up to this one take no more than r
   pub floors : sumBy (λ w. r * w / sum ws) (take i ws) + r * getD ws i 0 / sum ws ≤ r
 
-pub bounds : (q r : ℕ) (ws : List ℕ) (i : ℕ) → r < sum ws → sum ws ≤ 2000000000 → q * sum ws + r ≤ 1000000000000000 → i < length ws → Bounds q r ws i
+pub bounds : (q r : ℕ) (ws : List ℕ) (i : ℕ) → r < sum ws → sum ws ≤ most-total → q * sum ws + r ≤ most-pool → i < length ws → Bounds q r ws i
 bounds q r ws i part few small h =
     let w : ℕ = getD ws i 0 in
     let w-le = getD-le-sum ws i h in
-    let pr : r * w ≤ 2000000000 * 2000000000 = mul-le-mul {n₂ = 2000000000} {m₂ = 2000000000} (omega arith) (omega arith) in
+    let pr : r * w ≤ most-total * most-total = mul-le-mul {n₂ = most-total} {m₂ = most-total} (omega arith) (omega arith) in
     let pq : q * w ≤ q * sum ws = mul-le-mul-left q w-le in
     let le = size-le largest-remainder-size largest-remainder-exact q r ws i part h in
     let more = sumBy-more (λ v. r * v / sum ws) ws i 0 h in
@@ -216,14 +217,14 @@ take-front n i xs f ws le is =
 pub record So-far (q r whole : ℕ) (ws sizes left : List ℕ) (lacks i : ℕ) : Type 0 where
   pub all : whole ≡ sum ws
   pub bound : (k : ℕ) → k < length ws → Bounds q r ws k
-  pub room : length ws ≤ 64
-  pub sizes-long : length sizes ≡ 64
-  pub left-long : length left ≡ 64
+  pub room : length ws ≤ most-weights
+  pub sizes-long : length sizes ≡ most-weights
+  pub left-long : length left ≡ most-weights
   pub sizes-are : (k : ℕ) → k < i → getD sizes k 0 ≡ rounded-down q r ws (getD ws k 0)
   pub left-are : take i left ≡ map (λ w. r * w % sum ws) (take i ws)
   pub lacks-is : lacks + sumBy (λ w. r * w / sum ws) (take i ws) ≡ r
 
-pub so-far-none : (q r whole : ℕ) (ws sizes left : List ℕ) → whole ≡ sum ws → r < whole → whole ≤ 2000000000 → q * whole + r ≤ 1000000000000000 → length ws ≤ 64 → length sizes ≡ 64 → length left ≡ 64
+pub so-far-none : (q r whole : ℕ) (ws sizes left : List ℕ) → whole ≡ sum ws → r < whole → whole ≤ most-total → q * whole + r ≤ most-pool → length ws ≤ most-weights → length sizes ≡ most-weights → length left ≡ most-weights
     → So-far q r whole ws sizes left r 0
 so-far-none q r whole ws sizes left all part few small room sizes-long left-long =
     let same : q * whole ≡ q * sum ws = ap (λ x. q * x) all in
@@ -240,10 +241,10 @@ so-far-none q r whole ws sizes left all part few small room sizes-long left-long
 
 -- what the code computes at place i, in its own terms
 pub record Turn (q r whole : ℕ) (ws : List ℕ) (lacks i : ℕ) : Type 0 where
-  pub product-r : r * getD ws i 0 ≤ 4000000000000000000
-  pub product-q : q * getD ws i 0 ≤ 1000000000000000
+  pub product-r : r * getD ws i 0 ≤ most-total * most-total
+  pub product-q : q * getD ws i 0 ≤ most-pool
   pub size-is : q * getD ws i 0 + r * getD ws i 0 / whole ≡ rounded-down q r ws (getD ws i 0)
-  pub size : q * getD ws i 0 + r * getD ws i 0 / whole ≤ 1000000000000000
+  pub size : q * getD ws i 0 + r * getD ws i 0 / whole ≤ most-pool
   pub floor-is : r * getD ws i 0 / whole ≡ r * getD ws i 0 / sum ws
   pub floor : r * getD ws i 0 / whole ≤ lacks
 
@@ -302,7 +303,7 @@ size-from {q} {r} {ws} {d} {i} {k} {extra} down h ranked is =
     let more : extra ≡ bit (ltb (rank (remainders r ws) i) (missing r ws)) = is ∙ byte-bit (ltb k (d .missing)) ∙ ap (λ x. bit (ltb x (d .missing))) place ∙ ap (λ x. bit (ltb (rank (remainders r ws) i) x)) (down .missing-is) in
     ap (λ x. x + extra) (down .sizes-are i h) ∙ ap (λ x. rounded-down q r ws (getD ws i 0) + x) more
 
-pub size-fits : (n whole : ℕ) (ws : List ℕ) → 0 < whole → whole ≡ sum ws → whole ≤ 2000000000 → n ≤ 1000000000000000 → (k : ℕ) → k < length ws → largest-remainder-size (n / whole) (n % whole) ws k ≤ 1000000000000000
+pub size-fits : (n whole : ℕ) (ws : List ℕ) → 0 < whole → whole ≡ sum ws → whole ≤ most-total → n ≤ most-pool → (k : ℕ) → k < length ws → largest-remainder-size (n / whole) (n % whole) ws k ≤ most-pool
 size-fits n whole ws some all few small k h =
     let split = parted n whole ws some all in
     bounds (n / whole) (n % whole) ws k (split .part) (omega arith) (omega (arith, split .back)) h .size
@@ -312,6 +313,6 @@ pub largest-remainder-written : {p : ℤ} {ws : List ℕ} {at : List ℤ} {i : �
 unfolding largest-remainder
 largest-remainder-written n whole w done is all some = written-all n whole w done is all some
 
-pub largest-remainder-nothing : (p : ℤ) (ws : List ℕ) → sum ws ≡ 0 → length ws ≤ 64 → take (length ws) (replicate 64 (pos 0)) ≡ largest-remainder p ws
+pub largest-remainder-nothing : (p : ℤ) (ws : List ℕ) → sum ws ≡ 0 → length ws ≤ most-weights → take (length ws) (replicate most-weights (pos 0)) ≡ largest-remainder p ws
 unfolding largest-remainder
 largest-remainder-nothing p ws = nothing largest-remainder-size p ws

@@ -7,6 +7,7 @@ use native.Mathlib.Omega.{arith}
 use lib.IntN.{ℤ, pos, natAbs}
 use lib.ListN.{length, getD, set, take, replicate}
 use Rattle.std.specs.shelf.Lists.{sum}
+use Rattle.sharing.specs.Limits.{most-pool, most-weights, most-total}
 use Rattle.sharing.specs.Laws.{Lawful}
 use Rattle.sharing.specs.Running.{earned, running-size, running}
 use Rattle.sharing.proofs.Sums.{up-to, up-to-is, sum-more, sum-all, sum-upto, div-mono}
@@ -71,20 +72,20 @@ running-lawful p ws = apportioned running-size p ws running-exact
 -- what the code computes at place i is in bounds
 pub record Bounds (q r : ℕ) (ws : List ℕ) (i : ℕ) : Type 0 where
   pub next : sum (take i ws) + getD ws i 0 ≡ sum (take (i + 1) ws)
-  pub upto : sum (take (i + 1) ws) ≤ 2000000000
-  pub product-q : q * getD ws i 0 ≤ 1000000000000000
-  pub product-r : r * sum (take (i + 1) ws) ≤ 4000000000000000000
+  pub upto : sum (take (i + 1) ws) ≤ most-total
+  pub product-q : q * getD ws i 0 ≤ most-pool
+  pub product-r : r * sum (take (i + 1) ws) ≤ most-total * most-total
   pub order : earned r ws i ≤ earned r ws (i + 1)
-  pub size : running-size q r ws i ≤ 1000000000000000
+  pub size : running-size q r ws i ≤ most-pool
 
-pub bounds : (q r : ℕ) (ws : List ℕ) (i : ℕ) → r < sum ws → sum ws ≤ 2000000000 → q * sum ws + r ≤ 1000000000000000 → i < length ws → Bounds q r ws i
+pub bounds : (q r : ℕ) (ws : List ℕ) (i : ℕ) → r < sum ws → sum ws ≤ most-total → q * sum ws + r ≤ most-pool → i < length ws → Bounds q r ws i
 bounds q r ws i part few small h =
     let w : ℕ = getD ws i 0 in
     let c : ℕ = sum (take (i + 1) ws) in
     let within = sum-upto ws i h in
     let next = sum-more ws i h in
     let pq : q * w ≤ q * sum ws = mul-le-mul-left q (omega arith) in
-    let pr : r * c ≤ 2000000000 * 2000000000 = mul-le-mul {n₂ = 2000000000} {m₂ = 2000000000} (omega arith) (omega arith) in
+    let pr : r * c ≤ most-total * most-total = mul-le-mul {n₂ = most-total} {m₂ = most-total} (omega arith) (omega arith) in
     record {
       next = omega arith;
       upto = omega arith;
@@ -102,7 +103,7 @@ pub record So-far (p : ℤ) (q r whole : ℕ) (ws : List ℕ) (at : List ℤ) (u
   pub gain : gained ≡ earned r ws i
   pub shares : Written running-size p q r ws at i
 
-pub so-far-none : (p : ℤ) (n whole : ℕ) (ws : List ℕ) (at : List ℤ) → 0 < whole → whole ≡ sum ws → whole ≤ 2000000000 → n ≤ 1000000000000000 → length ws ≤ 64 → length at ≡ 64
+pub so-far-none : (p : ℤ) (n whole : ℕ) (ws : List ℕ) (at : List ℤ) → 0 < whole → whole ≡ sum ws → whole ≤ most-total → n ≤ most-pool → length ws ≤ most-weights → length at ≡ most-weights
     → So-far p (n / whole) (n % whole) whole ws at 0 0 0
 so-far-none p n whole ws at some all few small room long =
     let split = parted n whole ws some all in
@@ -117,13 +118,13 @@ so-far-none p n whole ws at some all few small room long =
 -- what the code computes at place i, in its own terms
 pub record Turn (q r whole : ℕ) (ws : List ℕ) (upto gained i : ℕ) : Type 0 where
   pub weight : upto + getD ws i 0 ≡ sum (take (i + 1) ws)
-  pub weight-le : upto + getD ws i 0 ≤ 2000000000
-  pub product-r : r * (upto + getD ws i 0) ≤ 4000000000000000000
-  pub product-q : q * getD ws i 0 ≤ 1000000000000000
+  pub weight-le : upto + getD ws i 0 ≤ most-total
+  pub product-r : r * (upto + getD ws i 0) ≤ most-total * most-total
+  pub product-q : q * getD ws i 0 ≤ most-pool
   pub gain : r * (upto + getD ws i 0) / whole ≡ earned r ws (i + 1)
   pub order : gained ≤ r * (upto + getD ws i 0) / whole
   pub size-is : q * getD ws i 0 + (r * (upto + getD ws i 0) / whole - gained) ≡ running-size q r ws i
-  pub size : q * getD ws i 0 + (r * (upto + getD ws i 0) / whole - gained) ≤ 1000000000000000
+  pub size : q * getD ws i 0 + (r * (upto + getD ws i 0) / whole - gained) ≤ most-pool
 
 module _ {p : ℤ} {q r whole : ℕ} {ws : List ℕ} {at : List ℤ} {upto gained i : ℕ} (s : So-far p q r whole ws at upto gained i) where
   pub turn : i < length ws → Turn q r whole ws upto gained i
@@ -162,6 +163,6 @@ pub running-written : {p : ℤ} {ws : List ℕ} {at : List ℤ} {upto gained i :
 unfolding running
 running-written n whole s done is some = written-all n whole (s .shares) done is (s .all) some
 
-pub running-nothing : (p : ℤ) (ws : List ℕ) → sum ws ≡ 0 → length ws ≤ 64 → take (length ws) (replicate 64 (pos 0)) ≡ running p ws
+pub running-nothing : (p : ℤ) (ws : List ℕ) → sum ws ≡ 0 → length ws ≤ most-weights → take (length ws) (replicate most-weights (pos 0)) ≡ running p ws
 unfolding running
 running-nothing p ws = nothing running-size p ws

@@ -1,5 +1,6 @@
 // What sharing answers: the shares, or why there are none.
 ghost use Prim.Native.Nat.{_≤_};
+ghost use Rattle.sharing.specs.Limits.{most-weights};
 use super::limits::MOST_WEIGHTS;
 
 pub mod methods;
@@ -18,5 +19,5 @@ pub enum SharingFault {
 pub struct Shares {
     len: usize,
     at: [i64; MOST_WEIGHTS],
-    ghost room: { len ≤ 64 },
+    ghost room: { len ≤ most-weights },
 }

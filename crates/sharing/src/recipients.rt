@@ -3,10 +3,8 @@ ghost use mathlib.Core.Path.{_≡_};
 ghost use mathlib.Core.List.{map};
 ghost use Prim.Native.Nat.{ℕ, _≤_};
 ghost use lib.ListN.{length, take};
-ghost use Rattle.std.specs.Vec.{made, refused};
-ghost use Rattle.sharing.specs.Handing.{handed};
-ghost use Rattle.sharing.specs.Laws.{Apportioned};
-ghost use Rattle.sharing.specs.Outcome.{Outcome};
+ghost use Rattle.sharing.specs.Limits.{most-weights};
+ghost use Rattle.sharing.specs.Handing.{SharedOut, handed};
 use super::limits::MOST_WEIGHTS;
 use super::outcome::SharingFault;
 use super::quantities::Quantity;
@@ -43,11 +41,7 @@ pub fn share_out<R: SharingRule, X: Recipient>(
     pool: X::Unit,
     to: &mut [X],
 ) -> Result<(), SharingFault>
-    ensures outcome { λ r. ⌜ Outcome (Unit·Quantity .amount pool) (map (X·Recipient .weighs) (now (to .entry))) (λ _. now (to .exit) ≡ handed (X·Recipient .having) (Unit·Quantity .of) (now (to .entry)) (R·SharingRule .shares (now (rule .entry)) (Unit·Quantity .amount pool) (map (X·Recipient .weighs) (now (to .entry))))) r ⌝ }
-    ensures kept { λ r. ⌜ refused r (λ _. now (to .exit) ≡ now (to .entry)) ⌝ }
-    ensures told { λ r. ⌜ made r (λ _. map (λ x. Unit·Quantity .amount (X·Recipient .holds x)) (now (to .exit)) ≡ R·SharingRule .shares (now (rule .entry)) (Unit·Quantity .amount pool) (map (X·Recipient .weighs) (now (to .entry)))) ⌝ }
-    ensures lawful { λ r. ⌜ made r (λ _. Apportioned (Unit·Quantity .amount pool) (map (X·Recipient .weighs) (now (to .entry))) (map (λ x. Unit·Quantity .amount (X·Recipient .holds x)) (now (to .exit)))) ⌝ }
-    ensures steady { λ _. ⌜ map (X·Recipient .weighs) (now (to .exit)) ≡ map (X·Recipient .weighs) (now (to .entry)) ⌝ }
+    ensures { λ r. ⌜ SharedOut (X·Recipient .weighs) (λ x. Unit·Quantity .amount (X·Recipient .holds x)) (X·Recipient .having) (Unit·Quantity .of) (R·SharingRule .shares (now (rule .entry))) (Unit·Quantity .amount pool) (now (to .entry)) (now (to .exit)) r ⌝ }
 {
     if to.len() > MOST_WEIGHTS {
         return Err(SharingFault::Limit);
@@ -60,7 +54,7 @@ pub fn share_out<R: SharingRule, X: Recipient>(
 
 // The recipients' weights, at the front of an array.
 fn weights_of<X: Recipient>(to: &[X]) -> [u32; MOST_WEIGHTS]
-    requires { ⌜ length (now to) ≤ 64 ⌝ }
+    requires { ⌜ length (now to) ≤ most-weights ⌝ }
     ensures { λ r. ⌜ take (length (now (to .entry))) r ≡ map (X·Recipient .weighs) (now (to .entry)) ⌝ }
 {
     let mut weights = [0u32; MOST_WEIGHTS];

@@ -4,11 +4,12 @@ pub mod running;
 
 ghost use mathlib.Core.Path.{_≡_};
 ghost use Prim.Native.Nat.{_≤_};
+ghost use Rattle.sharing.specs.Limits.{most-pool};
 ghost use Rattle.sharing.specs.Sizes.{signed};
 
 // A size with the sign of the pool.
 fn with_sign(pool: i64, size: u64) -> i64
-    requires { ⌜ size ≤ 1000000000000000 ⌝ }
+    requires { ⌜ size ≤ most-pool ⌝ }
     ensures { λ r. ⌜ r ≡ signed pool size ⌝ }
 {
     if pool < 0 {

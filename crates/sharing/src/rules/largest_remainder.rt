@@ -3,6 +3,7 @@ ghost use mathlib.Core.Path.{_≡_};
 ghost use Prim.Native.Nat.{_<_, _≤_, _+_, _*_};
 ghost use lib.ListN.{length};
 ghost use Rattle.std.specs.shelf.Lists.{sum};
+ghost use Rattle.sharing.specs.Limits.{most-pool, most-weights, most-total};
 ghost use Rattle.sharing.specs.LargestRemainder.{rank, largest-remainder};
 ghost use Rattle.sharing.specs.Rounding.{RoundsDown};
 use super::super::limits::MOST_WEIGHTS;
@@ -45,10 +46,10 @@ pub impl SharingRule for LargestRemainder as LargestRemainderSharing {
 
 // The shares of a pool of size `q * whole + r`, rounded down.
 fn round_down(q: u64, r: u64, whole: u64, weights: &[u32]) -> RoundedDown
-    requires few { ⌜ length (now weights) ≤ 64 ⌝ }
+    requires few { ⌜ length (now weights) ≤ most-weights ⌝ }
     requires all { ⌜ whole ≡ sum (now weights) ⌝ }
-    requires part { ⌜ r < whole ⌝ ∗ ⌜ whole ≤ 2000000000 ⌝ }
-    requires pool { ⌜ q * whole + r ≤ 1000000000000000 ⌝ }
+    requires part { ⌜ r < whole ⌝ ∗ ⌜ whole ≤ most-total ⌝ }
+    requires pool { ⌜ q * whole + r ≤ most-pool ⌝ }
     ensures { λ d. ⌜ RoundsDown q r (now (weights .entry)) d ⌝ }
 {
     let mut sizes = [0u64; MOST_WEIGHTS];

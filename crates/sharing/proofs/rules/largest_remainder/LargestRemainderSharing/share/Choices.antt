@@ -1,5 +1,6 @@
 use Prim.Native.Nat.{ℕ, _/_, _%_, _<_, _≤_}
 use lib.ListN.{length}
+use Rattle.sharing.specs.Limits.{most-pool}
 use Rattle.sharing.specs.LargestRemainder.{largest-remainder-size}
 use Rattle.sharing.proofs.BySize.{Written}
 use Rattle.sharing.proofs.rules.largest_remainder.LargestRemainderSharing.share.Given as given
@@ -7,4 +8,4 @@ use Rattle.sharing.proofs.rules.largest_remainder.LargestRemainderSharing.shar
 abbrev pub Inv-loop-i : given.InvT-loop-i
 Inv-loop-i l =
     Written largest-remainder-size (l .pool) (l .size / l .whole) (l .size % l .whole) (l .weights) (l .at) (l .i)
-    × ((k : ℕ) → k < length (l .weights) → largest-remainder-size (l .size / l .whole) (l .size % l .whole) (l .weights) k ≤ 1000000000000000)
+    × ((k : ℕ) → k < length (l .weights) → largest-remainder-size (l .size / l .whole) (l .size % l .whole) (l .weights) k ≤ most-pool)
