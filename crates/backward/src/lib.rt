@@ -3,6 +3,7 @@ ghost use mathlib.Core.Path.{_≡_};
 ghost use mathlib.Core.List.{reverse};
 ghost use Prim.Native.Nat.{_≤_};
 ghost use lib.ListN.{length, take};
+ghost use Rattle.sharing.specs.Limits.{most-weights};
 use sharing::MOST_WEIGHTS;
 use sharing::Shares;
 use sharing::SharingFault;
@@ -28,7 +29,7 @@ pub impl<R: SharingRule> SharingRule for Backward<R> as BackwardSharing {
 
 // The items in reverse, at the front of an array of blanks.
 fn reversed<T: Copy>(items: &[T], blank: T) -> [T; MOST_WEIGHTS]
-    requires { ⌜ length (now items) ≤ 64 ⌝ }
+    requires { ⌜ length (now items) ≤ most-weights ⌝ }
     ensures { λ r. ⌜ take (length (now (items .entry))) r ≡ reverse (now (items .entry)) ⌝ }
 {
     let mut turned = [blank; MOST_WEIGHTS];
