@@ -80,6 +80,15 @@ module _ {X U : Type 0} (having : X → U → X) (of : ℤ → U) where
   told-handed told is (x ∷ xs) (z ∷ zs) long =
       ap (λ u. u ∷ map told (handed having of xs zs)) (is x z) ∙ ap (λ l. z ∷ l) (told-handed told is xs zs (omega arith))
 
+  -- what each held is given back
+  pub handed-back : (holds : X → U) → ((x : X) (u : U) → having (having x u) (holds x) ≡ x) → (xs : List X) (zs : List ℤ) → length zs ≡ length xs
+      → handed having (λ u. u) (handed having of xs zs) (map holds xs) ≡ xs
+  handed-back holds is [] [] long = refl
+  handed-back holds is [] (z ∷ zs) long = absurd (not-suc-le-zero (le-of-eq long))
+  handed-back holds is (x ∷ xs) [] long = absurd (not-suc-le-zero (le-of-eq (sym long)))
+  handed-back holds is (x ∷ xs) (z ∷ zs) long =
+      ap (λ y. y ∷ handed having (λ u. u) (handed having of xs zs) (map holds xs)) (is x (of z)) ∙ ap (λ l. x ∷ l) (handed-back holds is xs zs (omega arith))
+
   -- what no share changes
   pub same-handed : (kept : X → ℕ) → ((x : X) (u : U) → kept (having x u) ≡ kept x) → (xs : List X) (zs : List ℤ) → map kept (handed having of xs zs) ≡ map kept xs
   same-handed kept is [] zs = refl

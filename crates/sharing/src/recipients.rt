@@ -23,6 +23,9 @@ pub trait Recipient {
 
     law told: { (x : Self) (u : Self·Unit) → holds (having x u) ≡ u };
 
+    // a share is all that taking one changes: given back what it held, the recipient is as it was
+    law restored: { (x : Self) (u : Self·Unit) → having (having x u) (holds x) ≡ x };
+
     law steady: { (x : Self) (u : Self·Unit) → weighs (having x u) ≡ weighs x };
 
     fn weight(&self) -> u32
@@ -41,7 +44,7 @@ pub fn share_out<R: SharingRule, X: Recipient>(
     pool: X::Unit,
     to: &mut [X],
 ) -> Result<(), SharingFault>
-    ensures { λ r. ⌜ SharedOut (X·Recipient .weighs) (λ x. Unit·Quantity .amount (X·Recipient .holds x)) (X·Recipient .having) (Unit·Quantity .of) (R·SharingRule .shares (now (rule .entry))) (Unit·Quantity .amount pool) (now (to .entry)) (now (to .exit)) r ⌝ }
+    ensures { λ r. ⌜ SharedOut (X·Recipient .weighs) (X·Recipient .holds) (X·Recipient .having) (Unit·Quantity .amount) (Unit·Quantity .of) (R·SharingRule .shares (now (rule .entry))) (Unit·Quantity .amount pool) (now (to .entry)) (now (to .exit)) r ⌝ }
 {
     if to.len() > MOST_WEIGHTS {
         return Err(SharingFault::Limit);

@@ -13,7 +13,7 @@ use Rattle.std.proofs.shelf.Results.{err-from-errBy}
 use Rattle.std.proofs.shelf.Signed.{toZ-ofZ}
 use Rattle.sharing.specs.Laws.{Apportioned}
 use Rattle.sharing.specs.Handing.{handed}
-use Rattle.sharing.proofs.Hands.{shared-as, part-from-0, told-handed, same-handed}
+use Rattle.sharing.proofs.Hands.{shared-as, part-from-0, told-handed, handed-back, same-handed}
 use Rattle.sharing.proofs.recipients.share_out.Needs as need
 
 pub returns-then-to-gt-MOST-WEIGHTS : need.returns-then-to-gt-MOST-WEIGHTS
@@ -23,6 +23,7 @@ returns-then-to-gt-MOST-WEIGHTS g c =
       kept = refl;
       told = tt;
       lawful = tt;
+      otherwise = tt;
       steady = refl;
     }
 
@@ -31,7 +32,7 @@ returns-in-Break-answer g c =
     let p = err-from-errBy (c .from-residual .result) (c .from-residual .ensures .1) in
     let f : SFits w64 (c .count .result) = search needs in
     let s = shared-as (g .R·SharingRule .shares (c .args .rule .now)) (Err (c .in-Break-answer .field-0 .0)) _ _ _ _ (toZ-ofZ w64 (c .count .result) f ∙ c .count .ensures) (part-from-0 (length (c .args .to .now)) (c .weights-of-weights .result) (c .weights-of-weights .ensures)) (c .in-Break-answer .ensures tt) in
-    rw (p .1, p .2) (record { outcome = s; kept = refl {a = c .args .to .now}; told = tt; lawful = tt; steady = refl {a = map (g .X·Recipient .weighs) (c .args .to .now)} })
+    rw (p .1, p .2) (record { outcome = s; kept = refl {a = c .args .to .now}; told = tt; lawful = tt; otherwise = tt; steady = refl {a = map (g .X·Recipient .weighs) (c .args .to .now)} })
 
 pub hand-out-requires : need.hand-out-requires
 hand-out-requires g c κs =
@@ -55,5 +56,7 @@ returns g c =
       kept = tt;
       told = told;
       lawful = subst (Apportioned (g .Unit·Quantity .amount (c .args .pool)) weights) (sym told) laws;
+      otherwise = ap (λ l. handed (g .X·Recipient .having) (λ u. u) l (map (g .X·Recipient .holds) (c .args .to .now))) after
+          ∙ handed-back (g .X·Recipient .having) (g .Unit·Quantity .of) (g .X·Recipient .holds) (λ x u. g .X·Recipient·met .restored x u) (c .args .to .now) out (laws .one-each ∙ length-map _ _);
       steady = ap (map (g .X·Recipient .weighs)) after ∙ same-handed (g .X·Recipient .having) (g .Unit·Quantity .of) (g .X·Recipient .weighs) (λ x u. g .X·Recipient·met .steady x u) (c .args .to .now) out;
     }
