@@ -72,7 +72,7 @@ within-reverse p ws w =
       each = λ i h.
           let e = length-reverse ws in
           omega (arith, getD-reverse ws i 0 (omega arith), w .each (length ws - 1 - i) (omega arith));
-      whole = omega (arith, w .whole, sum-reverse ws);
+      total = omega (arith, w .total, sum-reverse ws);
     }
 
 -- and back again

@@ -241,8 +241,6 @@ so-far-none q r whole ws sizes left all part few small room sizes-long left-long
 
 -- what the code computes at place i, in its own terms
 pub record Turn (q r whole : ℕ) (ws : List ℕ) (lacks i : ℕ) : Type 0 where
-  pub product-r : r * getD ws i 0 ≤ most-total * most-total
-  pub product-q : q * getD ws i 0 ≤ most-pool
   pub size-is : q * getD ws i 0 + r * getD ws i 0 / whole ≡ rounded-down q r ws (getD ws i 0)
   pub size : q * getD ws i 0 + r * getD ws i 0 / whole ≤ most-pool
   pub floor-is : r * getD ws i 0 / whole ≡ r * getD ws i 0 / sum ws
@@ -254,8 +252,6 @@ module _ {q r whole : ℕ} {ws sizes left : List ℕ} {lacks i : ℕ} (s : So-fa
       let b = s .bound i h in
       let floor-is : r * getD ws i 0 / whole ≡ r * getD ws i 0 / sum ws = ap (λ x. r * getD ws i 0 / x) (s .all) in
       record {
-        product-r = b .product-r;
-        product-q = b .product-q;
         size-is = ap (λ x. q * getD ws i 0 + x) floor-is;
         size = omega (arith, b .floor);
         floor-is = floor-is;

@@ -120,7 +120,6 @@ pub record Turn (q r whole : ℕ) (ws : List ℕ) (upto gained i : ℕ) : Type 0
   pub weight : upto + getD ws i 0 ≡ sum (take (i + 1) ws)
   pub weight-le : upto + getD ws i 0 ≤ most-total
   pub product-r : r * (upto + getD ws i 0) ≤ most-total * most-total
-  pub product-q : q * getD ws i 0 ≤ most-pool
   pub gain : r * (upto + getD ws i 0) / whole ≡ earned r ws (i + 1)
   pub order : gained ≤ r * (upto + getD ws i 0) / whole
   pub size-is : q * getD ws i 0 + (r * (upto + getD ws i 0) / whole - gained) ≡ running-size q r ws i
@@ -139,7 +138,6 @@ module _ {p : ℤ} {q r whole : ℕ} {ws : List ℕ} {at : List ℤ} {upto gaine
         weight = weight;
         weight-le = omega (arith, b .upto);
         product-r = omega (arith, b .product-r);
-        product-q = b .product-q;
         gain = gain;
         order = omega (arith, b .order, s .gain);
         size-is = is;

@@ -13,7 +13,7 @@ total zs = folded _+ℤ_ (pos 0) zs
 
 -- a share is less than one unit off its exact part p * w / W: W * share is less than W off p * w
 abbrev pub Near : ℤ → ℕ → ℕ → ℤ → Type 0
-Near p whole w share = natAbs (pos whole *ℤ share -ℤ p *ℤ pos w) < whole
+Near p W w share = natAbs (pos W *ℤ share -ℤ p *ℤ pos w) < W
 
 -- the shares zs of a pool p by weights ws are as the laws want them
 pub record Apportioned (p : ℤ) (ws : List ℕ) (zs : List ℤ) : Type 0 where

@@ -23,7 +23,7 @@ pub record Within (p : ℤ) (ws : List ℕ) : Type 0 where
   pub pool : natAbs p ≤ most-pool
   pub count : length ws ≤ most-weights
   pub each : (i : ℕ) → i < length ws → getD ws i 0 ≤ most-weight
-  pub whole : sum ws ≤ most-total
+  pub total : sum ws ≤ most-total
 
 -- where no weight counts, there is nothing to share
 abbrev pub Shareable : ℤ → List ℕ → Type 0

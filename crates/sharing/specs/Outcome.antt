@@ -23,7 +23,7 @@ abbrev pub Refused : ℤ → List ℕ → SharingFault → Type 0
 Refused p ws Limit = Within p ws → ⊥
 Refused p ws NoWeight = Within p ws × (Shareable p ws → ⊥)
 
--- what is answered, where an accepted pool is to have an answer that is right
+-- what is answered to a pool and weights: a refusal where one belongs, and else an answer that is right
 abbrev pub Outcome : {T : Type 0} → ℤ → List ℕ → (T → Type 0) → Result T SharingFault → Type 0
 Outcome p ws right (Ok x) = Within p ws × Shareable p ws × right x
 Outcome p ws right (Err f) = Refused p ws f
@@ -38,7 +38,7 @@ Shared p ws zs r = Outcome p ws (λ s. held s ≡ zs) r
 
 -- the total weight, or the refusal that every rule owes
 abbrev pub Weighed : ℤ → List ℕ → Result ℕ SharingFault → Type 0
-Weighed p ws r = Outcome p ws (λ whole. whole ≡ sum ws) r
+Weighed p ws r = Outcome p ws (λ W. W ≡ sum ws) r
 
 -- a refusal in words
 abbrev pub message-of : SharingFault → List ℕ

@@ -21,18 +21,18 @@ pub fn total_weight(pool: i64, weights: &[u32]) -> Result<u64, SharingFault>
     if pool.unsigned_abs() > MOST_POOL || weights.len() > MOST_WEIGHTS {
         return Err(SharingFault::Limit);
     }
-    let mut whole = 0u64;
+    let mut total = 0u64;
     for w in weights {
         if *w > MOST_WEIGHT {
             return Err(SharingFault::Limit);
         }
-        whole += *w as u64;
+        total += *w as u64;
     }
-    if whole > MOST_TOTAL {
+    if total > MOST_TOTAL {
         return Err(SharingFault::Limit);
     }
-    if whole == 0 && pool != 0 {
+    if total == 0 && pool != 0 {
         return Err(SharingFault::NoWeight);
     }
-    Ok(whole)
+    Ok(total)
 }

@@ -28,13 +28,13 @@ pub impl SharingRule for LargestRemainder as LargestRemainderSharing {
     ghost shares = { λ _ p ws. largest-remainder p ws };
 
     fn share(&self, pool: i64, weights: &[u32]) -> Result<Shares, SharingFault> {
-        let whole = total_weight(pool, weights)?;
+        let total = total_weight(pool, weights)?;
         let mut at = [0i64; MOST_WEIGHTS];
-        if whole == 0 {
+        if total == 0 {
             return Ok(Shares::new(at, weights.len()));
         }
         let size = pool.unsigned_abs();
-        let down = round_down(size / whole, size % whole, whole, weights);
+        let down = round_down(size / total, size % total, total, weights);
         let remainders = &down.remainders[0..weights.len()];
         for i in 0..weights.len() {
             let extra = u64::from(rank_of(remainders, i) < down.missing);
@@ -44,12 +44,12 @@ pub impl SharingRule for LargestRemainder as LargestRemainderSharing {
     }
 }
 
-// The shares of a pool of size `q * whole + r`, rounded down.
-fn round_down(q: u64, r: u64, whole: u64, weights: &[u32]) -> RoundedDown
+// The shares of a pool of size `q * total + r`, rounded down.
+fn round_down(q: u64, r: u64, total: u64, weights: &[u32]) -> RoundedDown
     requires few { ⌜ length (now weights) ≤ most-weights ⌝ }
-    requires all { ⌜ whole ≡ sum (now weights) ⌝ }
-    requires part { ⌜ r < whole ⌝ ∗ ⌜ whole ≤ most-total ⌝ }
-    requires pool { ⌜ q * whole + r ≤ most-pool ⌝ }
+    requires all { ⌜ total ≡ sum (now weights) ⌝ }
+    requires part { ⌜ r < total ⌝ ∗ ⌜ total ≤ most-total ⌝ }
+    requires pool { ⌜ q * total + r ≤ most-pool ⌝ }
     ensures { λ d. ⌜ RoundsDown q r (now (weights .entry)) d ⌝ }
 {
     let mut sizes = [0u64; MOST_WEIGHTS];
@@ -58,9 +58,9 @@ fn round_down(q: u64, r: u64, whole: u64, weights: &[u32]) -> RoundedDown
     for (i, w) in weights.iter().enumerate() {
         let w = *w as u64;
         let part = r * w;
-        let floor = part / whole;
+        let floor = part / total;
         sizes[i] = q * w + floor;
-        remainders[i] = part % whole;
+        remainders[i] = part % total;
         missing -= floor;
     }
     RoundedDown {

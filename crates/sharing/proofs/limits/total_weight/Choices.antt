@@ -7,6 +7,6 @@ use Rattle.sharing.proofs.limits.total_weight.Given as given
 
 abbrev pub Inv-loop-w : given.InvT-loop-w
 Inv-loop-w l =
-    (l .whole ≡ sum (take (l .w-index) (l .weights)))
-    × (l .whole ≤ most-weight * l .w-index)
+    (l .total ≡ sum (take (l .w-index) (l .weights)))
+    × (l .total ≤ most-weight * l .w-index)
     × ((k : ℕ) → k < l .w-index → getD (l .weights) k 0 ≤ most-weight)

@@ -9,10 +9,10 @@ loop-i-holds c =
     so-far-none _ _ _ _ _ _ (c .pre .all) (c .pre .part .0) (c .pre .part .1) (c .pre .pool) (c .pre .few) (length-replicate {A = ℕ} 64 0) (length-replicate {A = ℕ} 64 0)
 
 pub mul-part : need.mul-part
-mul-part c = omega (arith, turn (c .loop-i .inv) (c .loop-i-test .taken) .product-r)
+mul-part c = omega (arith, c .loop-i .inv .bound (c .loop-i .i) (c .loop-i-test .taken) .product-r)
 
 pub mul-sizes : need.mul-sizes
-mul-sizes c = omega (arith, turn (c .loop-i .inv) (c .loop-i-test .taken) .product-q)
+mul-sizes c = omega (arith, c .loop-i .inv .bound (c .loop-i .i) (c .loop-i-test .taken) .product-q)
 
 pub add-sizes : need.add-sizes
 add-sizes c = omega (arith, turn (c .loop-i .inv) (c .loop-i-test .taken) .size)

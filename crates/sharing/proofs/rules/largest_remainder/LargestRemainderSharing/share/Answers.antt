@@ -14,17 +14,17 @@ use Rattle.sharing.proofs.RemainderSizes.{size-from, size-fits, largest-remain
 use Rattle.sharing.proofs.Hands.{shared-as}
 use Rattle.sharing.proofs.rules.largest_remainder.LargestRemainderSharing.share.Needs as need
 
-pub returns-then-whole-eq0 : need.returns-then-whole-eq0
-returns-then-whole-eq0 c =
-    let w = c .in-Continue-whole .ensures tt in
+pub returns-then-total-eq0 : need.returns-then-total-eq0
+returns-then-total-eq0 c =
+    let w = c .in-Continue-total .ensures tt in
     shared-as largest-remainder (Ok (c .new .result)) _ _ _ _ (toZ-ofZ w64 (c .args .pool) (c .fits .pool)) refl
-    (w .0, w .1, c .new .ensures ∙ largest-remainder-nothing _ _ (sym (w .2) ∙ c .if-whole-eq0 .taken) (w .0 .count))
+    (w .0, w .1, c .new .ensures ∙ largest-remainder-nothing _ _ (sym (w .2) ∙ c .if-total-eq0 .taken) (w .0 .count))
 
 pub loop-i-holds : need.loop-i-holds
 loop-i-holds c =
-    let w = c .in-Continue-whole .ensures tt in (
+    let w = c .in-Continue-total .ensures tt in (
       written-none (length-replicate 64 (pos 0)) (w .0 .count),
-      size-fits _ _ _ (omega (arith, c .if-whole-eq0 .left)) (w .2) (omega (arith, w .0 .whole, w .2)) (omega (arith, ints, w .0 .pool)),
+      size-fits _ _ _ (omega (arith, c .if-total-eq0 .left)) (w .2) (omega (arith, w .0 .total, w .2)) (omega (arith, ints, w .0 .pool)),
     )
 
 pub add-down : need.add-down
@@ -46,6 +46,6 @@ loop-i-again c =
 
 pub returns : need.returns
 returns c =
-    let w = c .in-Continue-whole .ensures tt in
+    let w = c .in-Continue-total .ensures tt in
     shared-as largest-remainder (Ok (c .new-2 .result)) _ _ _ _ (toZ-ofZ w64 (c .args .pool) (c .fits .pool)) refl
-    (w .0, w .1, c .new-2 .ensures ∙ largest-remainder-written _ _ (c .loop-i .inv .0) (c .loop-i-test .left) (c .unsigned-abs-size .ensures .value) (w .2) (omega (arith, c .if-whole-eq0 .left)))
+    (w .0, w .1, c .new-2 .ensures ∙ largest-remainder-written _ _ (c .loop-i .inv .0) (c .loop-i-test .left) (c .unsigned-abs-size .ensures .value) (w .2) (omega (arith, c .if-total-eq0 .left)))

@@ -7,5 +7,5 @@ use Rattle.sharing.proofs.rules.largest_remainder.LargestRemainderSharing.shar
 
 abbrev pub Inv-loop-i : given.InvT-loop-i
 Inv-loop-i l =
-    Written largest-remainder-size (l .pool) (l .size / l .whole) (l .size % l .whole) (l .weights) (l .at) (l .i)
-    × ((k : ℕ) → k < length (l .weights) → largest-remainder-size (l .size / l .whole) (l .size % l .whole) (l .weights) k ≤ most-pool)
+    Written largest-remainder-size (l .pool) (l .size / l .total) (l .size % l .total) (l .weights) (l .at) (l .i)
+    × ((k : ℕ) → k < length (l .weights) → largest-remainder-size (l .size / l .total) (l .size % l .total) (l .weights) k ≤ most-pool)

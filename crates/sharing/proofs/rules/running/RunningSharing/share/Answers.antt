@@ -12,16 +12,16 @@ use Rattle.sharing.proofs.RunningSizes.{turn, so-far-none, so-far-more, runnin
 use Rattle.sharing.proofs.Hands.{shared-as}
 use Rattle.sharing.proofs.rules.running.RunningSharing.share.Needs as need
 
-pub returns-then-whole-eq0 : need.returns-then-whole-eq0
-returns-then-whole-eq0 c =
-    let w = c .in-Continue-whole .ensures tt in
+pub returns-then-total-eq0 : need.returns-then-total-eq0
+returns-then-total-eq0 c =
+    let w = c .in-Continue-total .ensures tt in
     shared-as running (Ok (c .new .result)) _ _ _ _ (toZ-ofZ w64 (c .args .pool) (c .fits .pool)) refl
-    (w .0, w .1, c .new .ensures ∙ running-nothing _ _ (sym (w .2) ∙ c .if-whole-eq0 .taken) (w .0 .count))
+    (w .0, w .1, c .new .ensures ∙ running-nothing _ _ (sym (w .2) ∙ c .if-total-eq0 .taken) (w .0 .count))
 
 pub loop-i-holds : need.loop-i-holds
 loop-i-holds c =
-    let w = c .in-Continue-whole .ensures tt in
-    so-far-none _ _ _ _ _ (omega (arith, c .if-whole-eq0 .left)) (w .2) (omega (arith, w .0 .whole, w .2)) (omega (arith, ints, w .0 .pool)) (w .0 .count) (length-replicate 64 (pos 0))
+    let w = c .in-Continue-total .ensures tt in
+    so-far-none _ _ _ _ _ (omega (arith, c .if-total-eq0 .left)) (w .2) (omega (arith, w .0 .total, w .2)) (omega (arith, ints, w .0 .pool)) (w .0 .count) (length-replicate 64 (pos 0))
 
 pub add-upto : need.add-upto
 add-upto c = omega (arith, turn (c .loop-i .inv) (c .loop-i-test .taken) .weight-le)
@@ -30,7 +30,7 @@ pub mul-now-earned : need.mul-now-earned
 mul-now-earned c = omega (arith, turn (c .loop-i .inv) (c .loop-i-test .taken) .product-r)
 
 pub mul-q : need.mul-q
-mul-q c = omega (arith, turn (c .loop-i .inv) (c .loop-i-test .taken) .product-q)
+mul-q c = omega (arith, c .loop-i .inv .bound (c .loop-i .i) (c .loop-i-test .taken) .product-q)
 
 pub sub-now-earned : need.sub-now-earned
 sub-now-earned c = turn (c .loop-i .inv) (c .loop-i-test .taken) .order
@@ -48,6 +48,6 @@ loop-i-again c =
 
 pub returns : need.returns
 returns c =
-    let w = c .in-Continue-whole .ensures tt in
+    let w = c .in-Continue-total .ensures tt in
     shared-as running (Ok (c .new-2 .result)) _ _ _ _ (toZ-ofZ w64 (c .args .pool) (c .fits .pool)) refl
-    (w .0, w .1, c .new-2 .ensures ∙ running-written _ _ (c .loop-i .inv) (c .loop-i-test .left) (c .unsigned-abs-size .ensures .value) (omega (arith, c .if-whole-eq0 .left)))
+    (w .0, w .1, c .new-2 .ensures ∙ running-written _ _ (c .loop-i .inv) (c .loop-i-test .left) (c .unsigned-abs-size .ensures .value) (omega (arith, c .if-total-eq0 .left)))
