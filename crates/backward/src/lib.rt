@@ -1,4 +1,6 @@
 // A sharing rule from outside the crate `sharing`: any rule, worked from the last place backwards.
+#![tactic(auto)]
+
 ghost use Rattle.std.specs.Prelude.{◌≡◌, ◌≤◌, reverse, length, take};
 ghost use Rattle.sharing.specs.Limits.{most_weights};
 ghost use Rattle.backward.specs.Turning;

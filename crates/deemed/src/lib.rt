@@ -1,4 +1,6 @@
 // The deemed energy of a tie's hour, in whole units for each interval.
+#![tactic(auto)]
+
 mod fault;
 mod hour;
 mod quantities;

@@ -1,4 +1,6 @@
 // Shares the energy of each tie's hour of the input, to be compared with an independent calculation.
+#![tactic(auto)]
+
 use anyhow::anyhow;
 use deemed::{DeemedFault, INTERVALS, Tag, TelemetrySteps, TieHour, Units, static_units};
 use sharing::{LargestRemainder, Running, SharingRule};

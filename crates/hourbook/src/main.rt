@@ -1,4 +1,6 @@
 // Shares a sample hour's offset, and some telling pools, under both rules.
+#![tactic(auto)]
+
 mod parties;
 mod table;
 

@@ -1,4 +1,6 @@
 // Shares each pool of the input under both rules, to be compared with an independent calculation.
+#![tactic(auto)]
+
 use anyhow::anyhow;
 use sharing::{LargestRemainder, Running, SharingRule};
 use std::alloc::Global;

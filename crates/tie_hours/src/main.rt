@@ -1,4 +1,6 @@
 // Shares the energy of some dynamic ties under both rules, and shows it beside that of static ones.
+#![tactic(auto)]
+
 mod ties;
 
 use std::io::{BufWriter, Write};

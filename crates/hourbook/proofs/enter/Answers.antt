@@ -5,7 +5,7 @@ use Rattle.hourbook.proofs.enter.Goals as goal
 
 pub loop-demand-preserved : goal.loop-demand-preserved
 loop-demand-preserved c =
-    c.in-ok-push.ensures.items ∙ ap (λ l. l ++ entered (get_or c.args.demands.now c.loop-demand.demand-index 0) ∷ []) c.loop-demand.invariant
+    c.in_ok-push.ensures.items ∙ ap (λ l. l ++ entered (get_or c.args.demands.now c.loop-demand.demand-index 0) ∷ []) c.loop-demand.invariant
     ∙ sym (map_more entered c.args.demands.now c.loop-demand.demand-index 0 c.loop-demand-test.true)
 
 pub returns : goal.returns

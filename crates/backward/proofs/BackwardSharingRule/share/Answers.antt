@@ -5,13 +5,13 @@ use Rattle.sharing.specs.Hands.{shared_as, part_from_0}
 use Rattle.backward.specs.Turning.{within_back, shareable_back, refused_back}
 use Rattle.backward.proofs.BackwardSharingRule.share.Goals as goal
 
-pub returns-in-err-answer : goal.returns-in-err-answer
-returns-in-err-answer g c =
-    let p = err_from_is_err_and c.from-residual.result c.from-residual.ensures.1 in
-    let s = shared_as (g.R.SharingRule.shares c.args.self.now.0) (Err c.in-err-answer.field-0.0) _ _ _ _ (to_z-of_z w64 c.args.pool c.ranges.pool) (part_from_0 (length c.args.weights.now) c.reversed-turned.result c.reversed-turned.ensures) c.in-err-answer.ensures in
-    rw (p.1, p.2) (refused_back c.args.pool c.args.weights.now c.in-err-answer.field-0.0 s)
+pub returns-in_err-answer : goal.returns-in_err-answer
+returns-in_err-answer g c =
+    let p = err_from_is_err_and c.from_residual.result c.from_residual.ensures.1 in
+    let s = shared_as (g.R.SharingRule.shares c.args.self.now.0) (Err c.in_err-answer.field-0.0) _ _ _ _ (to_z-of_z w64 c.args.pool c.ranges.pool) (part_from_0 (length c.args.weights.now) c.reversed-turned.result c.reversed-turned.ensures) c.in_err-answer.ensures in
+    rw (p.1, p.2) (refused_back c.args.pool c.args.weights.now c.in_err-answer.field-0.0 s)
 
 pub returns : goal.returns
 returns g c =
-    let s = shared_as (g.R.SharingRule.shares c.args.self.now.0) (Ok c.in-ok-answer.answer) _ _ _ _ (to_z-of_z w64 c.args.pool c.ranges.pool) (part_from_0 (length c.args.weights.now) c.reversed-turned.result c.reversed-turned.ensures) c.in-ok-answer.ensures in
-    (within_back c.args.pool c.args.weights.now s.0, shareable_back c.args.pool c.args.weights.now s.1, c.new.ensures ∙ c.reversed.ensures ∙ ap reverse (c.as-slice-shares.ensures ∙ s.2))
+    let s = shared_as (g.R.SharingRule.shares c.args.self.now.0) (Ok c.in_ok-answer.answer) _ _ _ _ (to_z-of_z w64 c.args.pool c.ranges.pool) (part_from_0 (length c.args.weights.now) c.reversed-turned.result c.reversed-turned.ensures) c.in_ok-answer.ensures in
+    (within_back c.args.pool c.args.weights.now s.0, shareable_back c.args.pool c.args.weights.now s.1, c.new.ensures ∙ c.reversed.ensures ∙ ap reverse (c.as_slice-shares.ensures ∙ s.2))

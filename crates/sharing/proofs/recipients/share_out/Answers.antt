@@ -7,8 +7,8 @@ use Rattle.sharing.specs.Handing.{handed}
 use Rattle.sharing.specs.Hands.{shared_as, part_from_0, told_handed, handed_back, same_handed}
 use Rattle.sharing.proofs.recipients.share_out.Goals as goal
 
-pub returns-then-to-gt-MOST-WEIGHTS : goal.returns-then-to-gt-MOST-WEIGHTS
-returns-then-to-gt-MOST-WEIGHTS g c =
+pub returns-then-to-gt-MOST_WEIGHTS : goal.returns-then-to-gt-MOST_WEIGHTS
+returns-then-to-gt-MOST_WEIGHTS g c =
     record {
       outcome = λ within. omega (arith, within.count, length-map c.args.to.now g.X.Recipient.weighs);
       kept = refl;
@@ -18,29 +18,29 @@ returns-then-to-gt-MOST-WEIGHTS g c =
       steady = refl;
     }
 
-pub returns-in-err-answer : goal.returns-in-err-answer
-returns-in-err-answer g c =
-    let p = err_from_is_err_and c.from-residual.result c.from-residual.ensures.1 in
+pub returns-in_err-answer : goal.returns-in_err-answer
+returns-in_err-answer g c =
+    let p = err_from_is_err_and c.from_residual.result c.from_residual.ensures.1 in
     let f : SFits w64 c.count.result = search rules in
-    let s = shared_as (g.R.SharingRule.shares c.args.rule.now) (Err c.in-err-answer.field-0.0) _ _ _ _ (to_z-of_z w64 c.count.result f ∙ c.count.ensures) (part_from_0 (length c.args.to.now) c.weights-of-weights.result c.weights-of-weights.ensures) c.in-err-answer.ensures in
+    let s = shared_as (g.R.SharingRule.shares c.args.rule.now) (Err c.in_err-answer.field-0.0) _ _ _ _ (to_z-of_z w64 c.count.result f ∙ c.count.ensures) (part_from_0 (length c.args.to.now) c.weights_of-weights.result c.weights_of-weights.ensures) c.in_err-answer.ensures in
     rw (p.1, p.2) (record { outcome = s; kept = refl {a = c.args.to.now}; told = tt; lawful = tt; otherwise = tt; steady = refl {a = map g.X.Recipient.weighs c.args.to.now} })
 
-pub hand-out-requires : goal.hand-out-requires
-hand-out-requires g c =
+pub hand_out-requires : goal.hand_out-requires
+hand_out-requires g c =
     let f : SFits w64 c.count.result = search rules in
-    let s = shared_as (g.R.SharingRule.shares c.args.rule.now) (Ok c.in-ok-answer.answer) _ _ _ _ (to_z-of_z w64 c.count.result f ∙ c.count.ensures) (part_from_0 (length c.args.to.now) c.weights-of-weights.result c.weights-of-weights.ensures) c.in-ok-answer.ensures in
-    ap length (c.as-slice.ensures ∙ s.2) ∙ (g.met.R.SharingRule.lawful _ _ _).one_each ∙ length-map _ _
+    let s = shared_as (g.R.SharingRule.shares c.args.rule.now) (Ok c.in_ok-answer.answer) _ _ _ _ (to_z-of_z w64 c.count.result f ∙ c.count.ensures) (part_from_0 (length c.args.to.now) c.weights_of-weights.result c.weights_of-weights.ensures) c.in_ok-answer.ensures in
+    ap length (c.as_slice.ensures ∙ s.2) ∙ (g.met.R.SharingRule.lawful _ _ _).one_each ∙ length-map _ _
 
 pub returns : goal.returns
 returns g c =
     let f : SFits w64 c.count.result = search rules in
-    let s = shared_as (g.R.SharingRule.shares c.args.rule.now) (Ok c.in-ok-answer.answer) _ _ _ _ (to_z-of_z w64 c.count.result f ∙ c.count.ensures) (part_from_0 (length c.args.to.now) c.weights-of-weights.result c.weights-of-weights.ensures) c.in-ok-answer.ensures in
+    let s = shared_as (g.R.SharingRule.shares c.args.rule.now) (Ok c.in_ok-answer.answer) _ _ _ _ (to_z-of_z w64 c.count.result f ∙ c.count.ensures) (part_from_0 (length c.args.to.now) c.weights_of-weights.result c.weights_of-weights.ensures) c.in_ok-answer.ensures in
     let tells : g.row.X.Denot → ℤ = λ x. g.X.Unit.Quantity.amount (g.X.Recipient.holds x) in
     let weights : List ℕ = map g.X.Recipient.weighs c.args.to.now in
     let out : List ℤ = g.R.SharingRule.shares c.args.rule.now (g.X.Unit.Quantity.amount c.args.pool) weights in
-    let after : c.hand-out.new.to ≡ handed g.X.Recipient.having g.X.Unit.Quantity.of c.args.to.now out = c.hand-out.ensures ∙ ap (handed g.X.Recipient.having g.X.Unit.Quantity.of c.args.to.now) (c.as-slice.ensures ∙ s.2) in
+    let after : c.hand_out.new.to ≡ handed g.X.Recipient.having g.X.Unit.Quantity.of c.args.to.now out = c.hand_out.ensures ∙ ap (handed g.X.Recipient.having g.X.Unit.Quantity.of c.args.to.now) (c.as_slice.ensures ∙ s.2) in
     let laws : Apportioned (g.X.Unit.Quantity.amount c.args.pool) weights out = g.met.R.SharingRule.lawful _ _ _ in
-    let told : map tells c.hand-out.new.to ≡ out = ap (map tells) after
+    let told : map tells c.hand_out.new.to ≡ out = ap (map tells) after
     ∙ told_handed g.X.Recipient.having g.X.Unit.Quantity.of tells (λ x z. ap g.X.Unit.Quantity.amount (g.met.X.Recipient.told x (g.X.Unit.Quantity.of z)) ∙ g.met.X.Unit.Quantity.back z) c.args.to.now out (laws.one_each ∙ length-map _ _) in
     record {
       outcome = (s.0, s.1, after);

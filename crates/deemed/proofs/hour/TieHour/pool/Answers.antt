@@ -8,8 +8,8 @@ use Rattle.deemed.proofs.Intervals.{pool_is}
 use Rattle.deemed.proofs.Totals.{total_more, total_within}
 use Rattle.deemed.proofs.hour.TieHour.pool.Goals as goal
 
-pub overflow-add-total : goal.overflow-add-total
-overflow-add-total c =
+pub overflow_add-total : goal.overflow_add-total
+overflow_add-total c =
     let h = c.args.self.now in
     let i = c.loop-interval.interval-index in
     let in_hour : i ≤ length h.intervals = omega (arith, h.long) in
@@ -26,7 +26,7 @@ loop-interval-preserved c =
     let kw = ap (λ u. u.0) c.kw-total.ensures in
     let one = (get_or h.intervals i c.interval-item.result).tag.scheduled in
     let more = total_more (λ (x : Interval). x.tag.kw.0) h.intervals i c.interval-item.result (omega (arith, h.long)) in
-    to_z-of_z w64 _ (overflow-add-total c) ∙ omega (arith, ints, c.loop-interval.invariant)
+    to_z-of_z w64 _ (overflow_add-total c) ∙ omega (arith, ints, c.loop-interval.invariant)
 
 pub returns : goal.returns
 returns c =

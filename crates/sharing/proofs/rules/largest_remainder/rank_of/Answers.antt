@@ -12,10 +12,10 @@ ahead_is c =
     let other : ℕ = get_or c.args.remainders.now j 0 in
     let own : ℕ = get_or c.args.remainders.now i 0 in
     let pick : Bool → Bool = λ b. cond b (ltb j i) (ltb own other) in
-    elim c.if-other-own.branch [ then-other-own w ↦ w.ahead_is ∙ sym (ap pick (eq-eqb other own w.if-other-own.true)) | else-other-own w ↦ w.ahead_is ∙ sym (ap pick (ne_eqb other own w.if-other-own.false)) ]
+    elim c.if-other-own.branch [ then-other-own w ↦ w.ahead-is ∙ sym (ap pick (eq-eqb other own w.if-other-own.true)) | else-other-own w ↦ w.ahead-is ∙ sym (ap pick (ne_eqb other own w.if-other-own.false)) ]
 
-pub overflow-add-before : goal.overflow-add-before
-overflow-add-before c =
+pub overflow_add-before : goal.overflow_add-before
+overflow_add-before c =
     omega (arith, c.loop-j.invariant, c.from-before.ensures, byte_bit c.if-other-own.ahead, bit_le c.if-other-own.ahead, tally_le (λ k. comes_before c.args.remainders.now k c.args.i) c.loop-j.j)
 
 pub loop-j-preserved : goal.loop-j-preserved
