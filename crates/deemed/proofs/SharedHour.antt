@@ -8,7 +8,7 @@ use Rattle.sharing.specs.Limits.{Within, Shareable}
 use Rattle.sharing.specs.Laws.{Apportioned, total}
 use Rattle.sharing.specs.Outcome.{Refused}
 use Rattle.sharing.specs.Handing.{SharedOut}
-use Rattle.sharing.specs.Hands.{same_handed}
+use Rattle.sharing.proofs.Hands.{same_handed}
 use Rattle.deemed.specs.declared.quantities.Units.{Units}
 use Rattle.deemed.specs.declared.fault.DeemedFault.{DeemedFault}
 use Rattle.deemed.specs.declared.tag.Tag.{Tag}

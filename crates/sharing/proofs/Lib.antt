@@ -1,1 +1,5 @@
+pub mod Hands
 pub mod Collected
+pub mod Written
+pub mod RunningSteps
+pub mod RemainderSteps

@@ -6,9 +6,9 @@ pub mod LargestRemainder
 pub mod Running
 pub mod Rounding
 pub mod Handing
-pub mod RemainderSizes
+-- nothing to believe: these prove that both rules keep the laws, and an impl cites only specs/
 pub mod Sums
 pub mod BySize
-pub mod Hands
-pub mod Tallies
 pub mod RunningSizes
+pub mod Tallies
+pub mod RemainderSizes

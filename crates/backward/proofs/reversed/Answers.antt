@@ -1,6 +1,6 @@
 use Rattle.std.proofs.Common.{◌≡◌, reverse, length, take, ap, ◌∙◌, arith}
 use Rattle.std.proofs.lemmas.List.{length-set, length-reverse, take_all}
-use Rattle.backward.specs.Turning.{turned_more}
+use Rattle.backward.proofs.Turned.{turned_more}
 use Rattle.backward.proofs.reversed.Goals as goal
 
 pub loop-i-preserved : goal.loop-i-preserved

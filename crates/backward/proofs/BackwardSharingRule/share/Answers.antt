@@ -1,8 +1,8 @@
 use Rattle.std.proofs.Common.{reverse, length, Ok, Err, ap, ◌∙◌, w64}
 use Rattle.std.proofs.lemmas.Result.{err_from_is_err_and}
 use Rattle.std.proofs.lemmas.Int.{to_z-of_z}
-use Rattle.sharing.specs.Hands.{shared_as, part_from_0}
-use Rattle.backward.specs.Turning.{within_back, shareable_back, refused_back}
+use Rattle.sharing.proofs.Hands.{shared_as, part_from_0}
+use Rattle.backward.proofs.Turned.{within_back, shareable_back, refused_back}
 use Rattle.backward.proofs.BackwardSharingRule.share.Goals as goal
 
 pub returns-in_err-answer : goal.returns-in_err-answer

@@ -1,6 +1,6 @@
 use Rattle.std.proofs.Common.{◌≡◌, ℕ, get_or, pos, sym, ap, ◌∙◌, arith, w64, SFits, rules}
 use Rattle.std.proofs.lemmas.Int.{to_z-of_z}
-use Rattle.sharing.specs.Hands.{handed_step, handed_all}
+use Rattle.sharing.proofs.Hands.{handed_step, handed_all}
 use Rattle.sharing.proofs.recipients.hand_out.Goals as goal
 
 pub loop-i-preserved : goal.loop-i-preserved

@@ -4,7 +4,7 @@ use Rattle.std.proofs.lemmas.Result.{err_from_is_err_and}
 use Rattle.std.proofs.lemmas.Int.{to_z-of_z}
 use Rattle.sharing.specs.Laws.{Apportioned}
 use Rattle.sharing.specs.Handing.{handed}
-use Rattle.sharing.specs.Hands.{shared_as, part_from_0, told_handed, handed_back, same_handed}
+use Rattle.sharing.proofs.Hands.{shared_as, part_from_0, told_handed, handed_back, same_handed}
 use Rattle.sharing.proofs.recipients.share_out.Goals as goal
 
 pub returns-then-to-gt-MOST_WEIGHTS : goal.returns-then-to-gt-MOST_WEIGHTS

@@ -1,6 +1,6 @@
 use Rattle.std.proofs.Common.{ℕ, arith}
 use Rattle.std.proofs.lemmas.List.{length-replicate}
-use Rattle.sharing.specs.RemainderSizes.{turn, so_far_none, so_far_more, rounds_down}
+use Rattle.sharing.proofs.RemainderSteps.{turn, so_far_none, so_far_more, rounds_down}
 use Rattle.sharing.proofs.rules.largest_remainder.round_down.Goals as goal
 
 pub loop-i-init : goal.loop-i-init

@@ -1,4 +1,4 @@
-use Rattle.sharing.specs.RemainderSizes.{SoFar}
+use Rattle.sharing.proofs.RemainderSteps.{SoFar}
 use Rattle.sharing.proofs.rules.largest_remainder.round_down.Given as goal
 
 abbrev pub invariant-loop-i : goal.invariant-loop-i

@@ -3,9 +3,9 @@ use Rattle.std.proofs.lemmas.List.{length-replicate}
 use Rattle.std.proofs.lemmas.Int.{ints, to_z-of_z}
 use Rattle.sharing.specs.Sizes.{signed}
 use Rattle.sharing.specs.LargestRemainder.{largest_remainder}
-use Rattle.sharing.specs.BySize.{written_none, written_more}
-use Rattle.sharing.specs.RemainderSizes.{size_from, size_fits, largest_remainder_written, largest_remainder_nothing}
-use Rattle.sharing.specs.Hands.{shared_as}
+use Rattle.sharing.proofs.Written.{written_none, written_more}
+use Rattle.sharing.proofs.RemainderSteps.{size_from, size_fits, largest_remainder_written, largest_remainder_nothing}
+use Rattle.sharing.proofs.Hands.{shared_as}
 use Rattle.sharing.proofs.rules.largest_remainder.LargestRemainderSharingRule.share.Goals as goal
 
 pub returns-then-total-eq0 : goal.returns-then-total-eq0

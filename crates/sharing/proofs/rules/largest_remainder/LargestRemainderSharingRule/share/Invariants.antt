@@ -1,7 +1,7 @@
 use Rattle.std.proofs.Common.{ℕ, ◌/◌, ◌%◌, ◌<◌, ◌≤◌, length}
 use Rattle.sharing.specs.Limits.{most_pool}
 use Rattle.sharing.specs.LargestRemainder.{largest_remainder_size}
-use Rattle.sharing.specs.BySize.{Written}
+use Rattle.sharing.proofs.Written.{Written}
 use Rattle.sharing.proofs.rules.largest_remainder.LargestRemainderSharingRule.share.Given as goal
 
 abbrev pub invariant-loop-i : goal.invariant-loop-i

@@ -2,8 +2,8 @@ use Rattle.std.proofs.Common.{pos, Ok, sym, refl, ◌∙◌, arith, w64, SFits, 
 use Rattle.std.proofs.lemmas.List.{length-replicate}
 use Rattle.std.proofs.lemmas.Int.{ints, to_z-of_z}
 use Rattle.sharing.specs.Running.{running}
-use Rattle.sharing.specs.RunningSizes.{turn, so_far_none, so_far_more, running_written, running_nothing}
-use Rattle.sharing.specs.Hands.{shared_as}
+use Rattle.sharing.proofs.RunningSteps.{turn, so_far_none, so_far_more, running_written, running_nothing}
+use Rattle.sharing.proofs.Hands.{shared_as}
 use Rattle.sharing.proofs.rules.running.RunningSharingRule.share.Goals as goal
 
 pub returns-then-total-eq0 : goal.returns-then-total-eq0

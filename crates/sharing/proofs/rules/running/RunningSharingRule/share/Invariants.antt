@@ -1,4 +1,4 @@
-use Rattle.sharing.specs.RunningSizes.{SoFar}
+use Rattle.sharing.proofs.RunningSteps.{SoFar}
 use Rattle.sharing.proofs.rules.running.RunningSharingRule.share.Given as goal
 
 abbrev pub invariant-loop-i : goal.invariant-loop-i
