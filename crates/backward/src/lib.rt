@@ -1,10 +1,9 @@
 // A sharing rule from outside the crate `sharing`: any rule, worked from the last place backwards.
 #![tactic(auto)]
 
-ghost use Rattle.std.specs.Prelude.{◌≡◌, ◌≤◌, reverse, length, take};
+ghost use Rattle.std.specs.Prelude.{◌≡◌, ◌≤◌, reverse, length, take, refl};
 ghost use Rattle.sharing.specs.Limits.{most_weights};
 ghost use Rattle.backward.specs.Turning;
-ghost use Rattle.std.proofs.Common.{rules};
 
 use sharing::{MOST_WEIGHTS, Shares, SharingFault, SharingRule};
 
@@ -54,7 +53,7 @@ mod tests {
 
         ghost of = { λ z. record { 0 = z } };
 
-        ghost back = { Prim.search rules };
+        ghost back = { λ z. refl };
 
         fn new(count: i64) -> Coins {
             Coins(count)
@@ -80,11 +79,11 @@ mod tests {
 
         ghost having = { λ x c. record { weight = x.weight; coins = c } };
 
-        ghost told = { Prim.search rules };
+        ghost told = { λ x u. refl };
 
-        ghost restored = { Prim.search rules };
+        ghost restored = { λ x u. refl };
 
-        ghost steady = { Prim.search rules };
+        ghost steady = { λ x u. refl };
 
         fn weight(&self) -> u32 {
             self.weight

@@ -1,5 +1,5 @@
 // Energy and telemetry, each in whole steps of its own.
-ghost use Rattle.std.proofs.Common.{rules};
+ghost use Rattle.std.specs.Prelude.{refl};
 
 use sharing::Quantity;
 
@@ -16,7 +16,7 @@ impl Quantity for Units {
 
     ghost of = { λ z. record { 0 = z } };
 
-    ghost back = { Prim.search rules };
+    ghost back = { λ z. refl };
 
     fn new(count: i64) -> Units {
         Units(count)

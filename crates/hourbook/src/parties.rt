@@ -1,5 +1,5 @@
 // Money, and the parties that take it.
-ghost use Rattle.std.proofs.Common.{rules};
+ghost use Rattle.std.specs.Prelude.{refl};
 
 use sharing::{Quantity, Recipient};
 
@@ -11,7 +11,7 @@ impl Quantity for Cents {
 
     ghost of = { λ z. record { 0 = z } };
 
-    ghost back = { Prim.search rules };
+    ghost back = { λ z. refl };
 
     fn new(count: i64) -> Cents {
         Cents(count)
@@ -38,11 +38,11 @@ impl Recipient for Party {
 
     ghost having = { λ p c. record { demand = p.demand; due = c } };
 
-    ghost told = { Prim.search rules };
+    ghost told = { λ x u. refl };
 
-    ghost restored = { Prim.search rules };
+    ghost restored = { λ x u. refl };
 
-    ghost steady = { Prim.search rules };
+    ghost steady = { λ x u. refl };
 
     fn weight(&self) -> u32 {
         self.demand

@@ -1,5 +1,5 @@
 -- What the code of largest remainder does, place by place. Assumes nothing.
-use Rattle.std.specs.Prelude.{◌≡◌, ℕ, ◌+◌, ◌-◌, ◌*◌, ◌/◌, ◌%◌, ◌<◌, ◌≤◌, List, [], ◌∷◌, ◌++◌, map, length, take, replicate, ℤ, pos, sum_by, sum, nat_lt, slice_index, slice_index_or, slice_set, unsigned_abs, refl}
+use Rattle.std.specs.Prelude.{◌≡◌, ℕ, ◌+◌, ◌-◌, ◌*◌, ◌/◌, ◌%◌, ◌<◌, ◌≤◌, Bool, true, false, List, [], ◌∷◌, ◌++◌, map, length, take, replicate, ℤ, pos, sum_by, sum, nat_lt, slice_index, slice_index_or, slice_set, unsigned_abs, refl}
 use Rattle.std.proofs.Common.{sym, ap, ◌∙◌, subst, le_refl, mul-le-mul, mul-le-mul_left, arith}
 use mir.Val.{bool_byte}
 use Rattle.std.proofs.lemmas.List.Edits.{fill_by_more}
@@ -9,10 +9,9 @@ use Rattle.sharing.specs.Limits.{most_pool, most_weights, most_total}
 use Rattle.sharing.specs.LargestRemainder.{bit, rounded_down, remainders, missing, rank, largest_remainder_size, largest_remainder}
 use Rattle.sharing.specs.declared.rules.largest_remainder.RoundedDown.{RoundedDown}
 use Rattle.sharing.specs.Rounding.{RoundsDown}
-use Rattle.sharing.specs.Sums.{slice_index-le_sum}
-use Rattle.sharing.specs.Tallies.{byte_bit}
 use Rattle.sharing.specs.RemainderSizes.{down_le, largest_remainder_exact}
 use Rattle.sharing.proofs.Hands.{part_from_0}
+use Rattle.sharing.proofs.WeightSums.{slice_index-le_sum}
 use Rattle.sharing.proofs.Written.{size_le, parted, nothing, Written, written_all}
 
 -- what the code computes at place i is in bounds
@@ -118,6 +117,11 @@ module _ {q r whole : ℕ} {ws sizes left : List ℕ} {lacks i : ℕ} (s : SoFar
         remainders_are = front ∙ ap (map (λ w. r * w % sum ws)) (take_all (length ws) ws (le_refl (length ws)));
         missing_is = omega (arith, s.lacks_is);
       }
+
+-- a test as the code counts it
+pub byte_bit : (b : Bool) → bool_byte b ≡ bit b
+byte_bit true = refl
+byte_bit false = refl
 
 -- a rounded share and its extra unit, as the code adds them
 pub size_from : {q r : ℕ} {ws : List ℕ} {d : RoundedDown} {i k extra : ℕ} → RoundsDown q r ws d → i < length ws → k ≡ rank (take (length ws - 0) d.remainders) i → extra ≡ bool_byte (nat_lt k d.missing)

@@ -4,9 +4,10 @@ use Rattle.std.proofs.Common.{sym, ap, ◌∙◌, mul-zero, mul-le-mul, mul-le-m
 use Rattle.std.proofs.Math.Nat.{zero-div}
 use Rattle.sharing.specs.Limits.{most_pool, most_weights, most_total}
 use Rattle.sharing.specs.Running.{earned, running_size, running}
-use Rattle.sharing.specs.Sums.{sum_more, sum_upto}
+use Rattle.sharing.specs.Sums.{sum_more}
 use Rattle.sharing.specs.Sizes.{signed}
 use Rattle.sharing.specs.RunningSizes.{rises, running_exact}
+use Rattle.sharing.proofs.WeightSums.{sum_upto}
 use Rattle.sharing.proofs.Written.{size_le, parted, nothing, Written, written_none, written_more, written_all}
 
 -- what the code computes at place i is in bounds

@@ -7,8 +7,8 @@ use Rattle.std.proofs.lemmas.List.Edits.{fill_by_more}
 use Rattle.std.proofs.lemmas.List.{length-set, length-take-le, get_or-take, length-replicate, get_or-replicate, take-replicate}
 use Rattle.sharing.specs.Limits.{most_weights}
 use Rattle.sharing.specs.Sizes.{signed, by_place}
-use Rattle.sharing.specs.Sums.{slice_index-le_sum}
 use Rattle.sharing.specs.BySize.{Exact, signed-zero, sized, sized_some, sized_none}
+use Rattle.sharing.proofs.WeightSums.{slice_index-le_sum}
 
 -- a pool's size n as q * W + r, with q and r as the code has them
 pub record Parted (n whole : ℕ) (ws : List ℕ) : Type 0 where

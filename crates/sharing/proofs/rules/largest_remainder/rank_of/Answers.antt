@@ -1,7 +1,8 @@
 use Rattle.std.proofs.Common.{◌≡◌, ℕ, ◌+◌, Bool, cond, ltb, get_or, sym, ap, ◌∙◌, arith}
 use Rattle.std.proofs.lemmas.Bool.{eq-eqb, ne_eqb}
 use Rattle.sharing.specs.LargestRemainder.{bit, comes_before, tally}
-use Rattle.sharing.specs.Tallies.{tally_le, tally_more, bit_le, byte_bit}
+use Rattle.sharing.specs.Tallies.{tally_le, tally_more, bit_le}
+use Rattle.sharing.proofs.RemainderSteps.{byte_bit}
 use Rattle.sharing.proofs.rules.largest_remainder.rank_of.Goals as goal
 use Rattle.sharing.proofs.rules.largest_remainder.rank_of.Goals.{then-other-own, else-other-own}
 
