@@ -6,6 +6,7 @@ use Rattle.sharing.specs.declared.outcome.SharingFault.{SharingFault}
 use Rattle.sharing.specs.declared.outcome.Shares.{Shares}
 use Rattle.sharing.specs.Outcome.{Shared}
 use Rattle.sharing.specs.Handing.{handed}
+use Rattle.sharing.proofs.Collected.{collected_more, collected_all}
 
 -- what a rule answers, at the same pool and weights by other names
 pub shared_as : (f : ℤ → List ℕ → List ℤ) (r : Result Shares SharingFault) (p q : ℤ) (ws vs : List ℕ) → p ≡ q → ws ≡ vs → Shared p ws (f p ws) r → Shared q vs (f q vs) r
@@ -17,6 +18,17 @@ shared_as f r p q ws vs e d h =
 -- `&xs[0..n]` as the checker reads it
 pub part_from_0 : {X : Type 0} (n : ℕ) (xs : List X) {ys : List X} → take n xs ≡ ys → take (n - 0) xs ≡ ys
 part_from_0 n xs is = let e : n - 0 ≡ n = omega arith in ap (λ k. take k xs) e ∙ is
+
+-- the weights that are collected
+module _ {X : Type 0} (weighs : X → ℕ) (to : List X) where
+  pub weights_more : (weights : List ℕ) (i w : ℕ) (x : X) → i < length to → i < length weights → take i weights ≡ map weighs (take i to)
+      → w ≡ weighs x → x ≡ slice_index_or to i x → take (i + 1) (slice_set weights i w) ≡ map weighs (take (i + 1) to)
+  weights_more weights i w x h k is new read =
+      (collected_more weighs to (length weights) weights i w x h k (refl, is) (new ∙ ap weighs read)).1
+
+  pub weights_all : (weights : List ℕ) (i : ℕ) → length to ≤ i → i ≤ length to → take i weights ≡ map weighs (take i to)
+      → take (length to) weights ≡ map weighs to
+  weights_all weights i done within is = collected_all weighs to (length weights) weights i done within (refl, is)
 
 module _ {X U : Type 0} (having : X → U → X) (of : ℤ → U) where
   length-handed : (xs : List X) (zs : List ℤ) → length (handed having of xs zs) ≡ length xs
