@@ -1,7 +1,9 @@
 -- Refusals and items, turned round. Assumes nothing.
-use Rattle.std.specs.Prelude.{◌≡◌, ℕ, ◌+◌, ◌-◌, ◌<◌, List, [], ◌∷◌, ◌++◌, reverse, length, take, ℤ, slice_index_or, slice_set}
-use Rattle.std.proofs.Common.{sym, ap, ◌∙◌, subst, arith}
-use Rattle.std.proofs.lemmas.List.{length-reverse, get_or-reverse, reverse-reverse, take_more, take_more_set}
+use Rattle.std.specs.Prelude.{◌≡◌, ℕ, ◌-◌, List, reverse, length, ℤ}
+use Rattle.std.proofs.Common.{ap, ◌∙◌, subst, arith}
+use Rattle.std.proofs.lemmas.List.{length-reverse, get_or-reverse, reverse-reverse}
+use Rattle.arrayvec.specs.ArrayVec.{ArrayVec, with_items}
+use Rattle.arrayvec.proofs.ArrayVecLemmas.{items-with_items}
 use Rattle.sharing.specs.declared.outcome.SharingFault.{SharingFault}
 use Rattle.sharing.specs.declared.outcome.SharingFault.TheVariants.{Limit, NoWeight}
 use Rattle.sharing.specs.Limits.{Within, Shareable}
@@ -30,9 +32,7 @@ pub refused_back : (p : ℤ) (ws : List ℕ) (f : SharingFault) → Refused p (r
 refused_back p ws Limit h = λ within. h (Within-reverse p ws within)
 refused_back p ws NoWeight h = (within_back p ws h.0, λ shareable. h.1 (Shareable-reverse p ws shareable))
 
--- one more item is written from the other end
-pub turned_more : {X : Type 0} (xs to : List X) (i : ℕ) (y : X) → i < length xs → i < length to → take i to ≡ take i (reverse xs) → y ≡ slice_index_or xs (length xs - 1 - i) y
-    → take (i + 1) (slice_set to i y) ≡ take (i + 1) (reverse xs)
-turned_more xs to i y h room is read =
-    take_more_set to i y room ∙ ap (λ l. l ++ y ∷ []) is
-    ∙ ap (λ v. take i (reverse xs) ++ v ∷ []) (read ∙ sym (get_or-reverse xs i y h)) ∙ sym (take_more (reverse xs) i y (omega (arith, length-reverse xs)))
+-- a vector whose slice was turned round
+pub turned_items : (v : ArrayVec ℕ) (shown written ws : List ℕ) → shown ≡ (with_items v written).items → written ≡ reverse v.items → v.items ≡ ws → shown ≡ reverse ws
+turned_items v shown written ws is turned all =
+    is ∙ items-with_items v written (ap length turned ∙ length-reverse v.items) ∙ turned ∙ ap reverse all

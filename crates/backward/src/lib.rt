@@ -1,10 +1,12 @@
 // A sharing rule from outside the crate `sharing`: any rule, worked from the last place backwards.
 #![tactic(auto)]
 
-ghost use Rattle.std.specs.Prelude.{◌≡◌, ◌≤◌, reverse, length, take, refl};
+ghost use Rattle.std.specs.Prelude.{◌≡◌, ◌≤◌, reverse, length, refl};
 ghost use Rattle.sharing.specs.Limits.{most_weights};
+ghost use Rattle.sharing.specs.Outcome.{held};
 ghost use Rattle.backward.specs.Turning;
 
+use arrayvec::ArrayVec;
 use sharing::{MOST_WEIGHTS, Shares, SharingFault, SharingRule};
 
 // Among equals the later place comes first.
@@ -17,26 +19,25 @@ impl<R: SharingRule> SharingRule for Backward<R> {
     ghost lawful = { λ rule p ws. Turning.turned p ws (R.SharingRule.shares rule.0 p (reverse ws)) (R.SharingRule.lawful rule.0 p (reverse ws)) };
 
     fn share(&self, pool: i64, weights: &[u32]) -> Result<Shares, SharingFault> {
-        if weights.len() > MOST_WEIGHTS {
+        let Ok(mut turned) = ArrayVec::<u32, MOST_WEIGHTS>::try_from(weights) else {
             return Err(SharingFault::Limit);
-        }
-        let turned = reversed(weights, 0);
-        let answer = self.0.share(pool, &turned[0..weights.len()])?;
-        let shares = answer.as_slice();
-        Ok(Shares::new(reversed(shares, 0), shares.len()))
+        };
+        turned.reverse();
+        let answer = self.0.share(pool, &turned)?;
+        Ok(reversed(answer.as_slice()))
     }
 }
 
-// The items in reverse, at the front of an array of blanks.
-fn reversed<T: Copy>(items: &[T], blank: T) -> [T; MOST_WEIGHTS]
-    requires { length items.now ≤ most_weights }
-    ensures { take (length items.now) result ≡ reverse items.now }
+// The shares, the last place first.
+fn reversed(shares: &[i64]) -> Shares
+    requires { length shares.now ≤ most_weights }
+    ensures { held result ≡ reverse shares.now }
 {
-    let mut turned = [blank; MOST_WEIGHTS];
-    for i in 0..items.len() {
-        turned[i] = items[items.len() - 1 - i];
-    }
-    turned
+    // an array, as `Shares` holds one
+    let mut at = [0i64; MOST_WEIGHTS];
+    at[..shares.len()].copy_from_slice(shares);
+    at[..shares.len()].reverse();
+    Shares::new(at, shares.len())
 }
 
 #[cfg(test)]
@@ -45,6 +46,7 @@ mod tests {
     use sharing::{LargestRemainder, Quantity, Recipient, share_out};
     use std::test::Fail;
 
+    // the test has a unit and a recipient of its own, as any crate outside has them
     #[derive(Clone, Copy)]
     struct Coins(i64);
 

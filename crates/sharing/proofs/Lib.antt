@@ -1,6 +1,5 @@
 pub mod Hands
-pub mod Collected
-pub mod WeightSums
-pub mod Written
+pub mod Sized
 pub mod RunningSteps
 pub mod RemainderSteps
+pub mod Ranks

@@ -1,12 +1,13 @@
 -- Shares rounded down, place by place. Assumes nothing.
-use Rattle.std.specs.Prelude.{◌≡◌, ℕ, ◌<◌, List, length, take, slice_index}
+use Rattle.std.specs.Prelude.{◌≡◌, ℕ, ◌*◌, ◌%◌, List, map, sum}
+use Rattle.sharing.specs.declared.rules.largest_remainder.Floor.{Floor}
 use Rattle.sharing.specs.declared.rules.largest_remainder.RoundedDown.{RoundedDown}
-use Rattle.sharing.specs.Limits.{most_weights}
-use Rattle.sharing.specs.LargestRemainder.{rounded_down, remainders, missing}
+use Rattle.sharing.specs.LargestRemainder.{rounded_down, missing}
+
+-- the share of a weight rounded down, and what that leaves of it
+abbrev pub floor : ℕ → ℕ → List ℕ → ℕ → Floor
+floor q r ws w = record { size = rounded_down q r ws w; remainder = r * w % sum ws }
 
 pub record RoundsDown (q r : ℕ) (ws : List ℕ) (d : RoundedDown) : Type 0 where
-  pub sizes_long : length d.sizes ≡ most_weights
-  pub remainders_long : length d.remainders ≡ most_weights
-  pub sizes_are : (i : ℕ) → i < length ws → slice_index d.sizes i ≡ rounded_down q r ws (slice_index ws i)
-  pub remainders_are : take (length ws) d.remainders ≡ remainders r ws
+  pub floors_are : d.floors.items ≡ map (floor q r ws) ws
   pub missing_is : d.missing ≡ missing r ws

@@ -23,11 +23,11 @@ pub fn total_weight(pool: i64, weights: &[u32]) -> Result<u64, SharingFault>
         return Err(SharingFault::Limit);
     }
     let mut total = 0u64;
-    for w in weights {
-        if *w > MOST_WEIGHT {
+    for weight in weights {
+        if *weight > MOST_WEIGHT {
             return Err(SharingFault::Limit);
         }
-        total += *w as u64;
+        total += u64::from(*weight);
     }
     if total > MOST_TOTAL {
         return Err(SharingFault::Limit);

@@ -8,6 +8,7 @@ pub trait Quantity: Copy {
     // the quantity of an amount
     ghost of: { ℤ → Self };
 
+    // not `From`, either way: it states a relation where the laws of recipients need a function
     fn new(count: i64) -> Self
         ensures { result ≡ of count };
 

@@ -1,5 +1,5 @@
 // Who takes shares, and the one place where a pool is shared among them.
-ghost use Rattle.std.specs.Prelude.{◌≡◌, ℕ, ◌≤◌, map, length, take};
+ghost use Rattle.std.specs.Prelude.{◌≡◌, ℕ, ◌≤◌, map, length};
 ghost use Rattle.sharing.specs.Limits.{most_weights};
 ghost use Rattle.sharing.specs.Handing.{SharedOut, handed};
 
@@ -7,6 +7,7 @@ use super::limits::MOST_WEIGHTS;
 use super::outcome::SharingFault;
 use super::quantities::Quantity;
 use super::rule::SharingRule;
+use arrayvec::ArrayVec;
 
 // Tells its weight, takes a share in its own unit, and tells it back.
 pub trait Recipient {
@@ -48,19 +49,19 @@ pub fn share_out<R: SharingRule, X: Recipient>(
         return Err(SharingFault::Limit);
     }
     let weights = weights_of(to);
-    let answer = rule.share(pool.count(), &weights[0..to.len()])?;
+    let answer = rule.share(pool.count(), &weights)?;
     hand_out(answer.as_slice(), to);
     Ok(())
 }
 
-// The recipients' weights, at the front of an array.
-fn weights_of<X: Recipient>(to: &[X]) -> [u32; MOST_WEIGHTS]
+// The recipients' weights, in order.
+fn weights_of<X: Recipient>(to: &[X]) -> ArrayVec<u32, MOST_WEIGHTS>
     requires { length to.now ≤ most_weights }
-    ensures { take (length to.now) result ≡ map X.Recipient.weighs to.now }
+    ensures { result.items ≡ map X.Recipient.weighs to.now }
 {
-    let mut weights = [0u32; MOST_WEIGHTS];
-    for (i, x) in to.iter().enumerate() {
-        weights[i] = x.weight();
+    let mut weights = ArrayVec::new();
+    for x in to {
+        weights.push(x.weight());
     }
     weights
 }
@@ -70,6 +71,7 @@ fn hand_out<X: Recipient>(shares: &[i64], to: &mut [X])
     requires { length shares.now ≡ length to.old }
     ensures { to.new ≡ handed X.Recipient.having X.Unit.Quantity.of to.old shares.now }
 {
+    // by place: through a `zip` with `iter_mut` nothing is known of what was written
     for (i, x) in to.iter_mut().enumerate() {
         x.take(X::Unit::new(shares[i]));
     }

@@ -1,40 +1,15 @@
-use Rattle.std.proofs.Common.{◌≡◌, ℕ, List, map, length, ℤ, Ok, Err, sym, refl, ap, ◌∙◌, subst, arith, w64, SFits, rules}
+use Rattle.std.proofs.Common.{◌≡◌, ℕ, List, map, ℤ, Ok, sym, ap, ◌∙◌, subst, w64, SFits, rules}
 use Rattle.std.proofs.lemmas.List.{length-map}
-use Rattle.std.proofs.lemmas.Result.{err_from_is_err_and}
 use Rattle.std.proofs.lemmas.Int.{to_z-of_z}
 use Rattle.sharing.specs.Laws.{Apportioned}
 use Rattle.sharing.specs.Handing.{handed}
-use Rattle.sharing.proofs.Hands.{shared_as, part_from_0, told_handed, handed_back, same_handed}
+use Rattle.sharing.proofs.Hands.{shared_as, told_handed, handed_back, same_handed}
 use Rattle.sharing.proofs.recipients.share_out.Goals as goal
-
-pub returns-then-to-gt-MOST_WEIGHTS : goal.returns-then-to-gt-MOST_WEIGHTS
-returns-then-to-gt-MOST_WEIGHTS g c =
-    record {
-      outcome = λ within. omega (arith, within.count, length-map c.args.to.now g.X.Recipient.weighs);
-      kept = refl;
-      told = tt;
-      lawful = tt;
-      otherwise = tt;
-      steady = refl;
-    }
-
-pub returns-in_err-answer : goal.returns-in_err-answer
-returns-in_err-answer g c =
-    let p = err_from_is_err_and c.from_residual.result c.from_residual.ensures.1 in
-    let f : SFits w64 c.count.result = search rules in
-    let s = shared_as (g.R.SharingRule.shares c.args.rule.now) (Err c.in_err-answer.field-0.0) _ _ _ _ (to_z-of_z w64 c.count.result f ∙ c.count.ensures) (part_from_0 (length c.args.to.now) c.weights_of-weights.result c.weights_of-weights.ensures) c.in_err-answer.ensures in
-    rw (p.1, p.2) (record { outcome = s; kept = refl {a = c.args.to.now}; told = tt; lawful = tt; otherwise = tt; steady = refl {a = map g.X.Recipient.weighs c.args.to.now} })
-
-pub hand_out-requires : goal.hand_out-requires
-hand_out-requires g c =
-    let f : SFits w64 c.count.result = search rules in
-    let s = shared_as (g.R.SharingRule.shares c.args.rule.now) (Ok c.in_ok-answer.answer) _ _ _ _ (to_z-of_z w64 c.count.result f ∙ c.count.ensures) (part_from_0 (length c.args.to.now) c.weights_of-weights.result c.weights_of-weights.ensures) c.in_ok-answer.ensures in
-    ap length (c.as_slice.ensures ∙ s.2) ∙ (g.met.R.SharingRule.lawful _ _ _).one_each ∙ length-map _ _
 
 pub returns : goal.returns
 returns g c =
     let f : SFits w64 c.count.result = search rules in
-    let s = shared_as (g.R.SharingRule.shares c.args.rule.now) (Ok c.in_ok-answer.answer) _ _ _ _ (to_z-of_z w64 c.count.result f ∙ c.count.ensures) (part_from_0 (length c.args.to.now) c.weights_of-weights.result c.weights_of-weights.ensures) c.in_ok-answer.ensures in
+    let s = shared_as (g.R.SharingRule.shares c.args.rule.now) (Ok c.in_ok-answer.answer) _ _ _ _ (to_z-of_z w64 c.count.result f ∙ c.count.ensures) (c.deref.ensures.0 ∙ c.weights_of-weights.ensures) c.in_ok-answer.ensures in
     let tells : g.row.X.Denot → ℤ = λ x. g.X.Unit.Quantity.amount (g.X.Recipient.holds x) in
     let weights : List ℕ = map g.X.Recipient.weighs c.args.to.now in
     let out : List ℤ = g.R.SharingRule.shares c.args.rule.now (g.X.Unit.Quantity.amount c.args.pool) weights in
