@@ -1,5 +1,5 @@
-pub mod Weights
 pub mod Totals
 pub mod Limits
+pub mod Arrays
 pub mod Intervals
 pub mod SharedHour

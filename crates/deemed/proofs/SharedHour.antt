@@ -1,11 +1,11 @@
 -- A tie's hour, before and after its energy is shared among the intervals. Assumes nothing.
-use Rattle.std.proofs.Common.{◌≡◌, ℕ, zero, suc, List, map, length, ℤ, pos, Ok, Err, sum, Result, refl, ap, ◌∙◌, subst, arith}
+use Rattle.std.proofs.Common.{◌≡◌, ℕ, List, map, length, ℤ, pos, Ok, Err, sum, Result, refl, ap, ◌∙◌, arith}
 use mathlib.Core.List.{map-map}
 use Rattle.std.proofs.lemmas.List.{length-map}
 use Rattle.sharing.specs.declared.outcome.SharingFault.{SharingFault}
 use Rattle.sharing.specs.declared.outcome.SharingFault.TheVariants.{Limit, NoWeight}
 use Rattle.sharing.specs.Limits.{Within, Shareable}
-use Rattle.sharing.specs.Laws.{Apportioned, total}
+use Rattle.sharing.specs.Laws.{Apportioned}
 use Rattle.sharing.specs.Outcome.{Refused}
 use Rattle.sharing.specs.Handing.{SharedOut}
 use Rattle.sharing.proofs.Hands.{same_handed}
@@ -19,7 +19,7 @@ use Rattle.deemed.specs.Tags.{weight}
 use Rattle.deemed.specs.Hours.{tags_of, units_of, pool_of, weights_of, energies}
 use Rattle.deemed.specs.Deemed.{Deemed, DeemedStatic}
 use Rattle.deemed.proofs.Limits.{within_limits}
-use Rattle.deemed.proofs.Intervals.{same_hour, same_tags, tags_long, weights_are, energies_are}
+use Rattle.deemed.proofs.Intervals.{same_hour, tags_long, weights_are, energies_are}
 
 -- an interval as a recipient
 abbrev weighs : Interval → ℕ
@@ -39,27 +39,21 @@ SharedAmong shares p before after r =
 -- why a pool inside the limits is refused
 only_no_weight : (p : ℤ) (ws : List ℕ) (f : SharingFault) → Within p ws → Refused p ws f → (f ≡ NoWeight) × (sum ws ≡ 0) × (p ≡ pos 0 → ⊥)
 only_no_weight p ws Limit within why = absurd (why within)
-only_no_weight p ws NoWeight within why = (refl, none (sum ws) why.1, λ e. why.1 (λ _. e))
-  where
-    none : (n : ℕ) → ((n ≡ 0 → p ≡ pos 0) → ⊥) → n ≡ 0
-    none zero h = refl
-    none (suc n) h = absurd (h (λ e. absurd (omega (arith, e))))
+only_no_weight p ws NoWeight within why = (refl, grind (arith, why.1), λ e. why.1 (λ _. e))
 
-module _ (shares : ℤ → List ℕ → List ℤ) (p : ℤ) (before after : TieHour) (is : p ≡ pool_of before) where
+module _ {shares : ℤ → List ℕ → List ℤ} {p : ℤ} {before after : TieHour} (is : p ≡ pool_of before) where
   pub shared_hour : {T : Type 0} (x : T) → SharedAmong shares p before after (Ok x) → Deemed shares before after (Ok x)
+  unfolding tags_of
   shared_hour x s =
       let ws : List ℕ = weights_of before in
       let us : List ℤ = energies (units_of after) in
-      let Facts : ℤ → List ℕ → List ℤ → Type 0 = λ q vs zs. Shareable q vs × (zs ≡ shares q vs) × Apportioned q vs zs in
-      let told : List ℤ = map (λ i. i.deemed.0) after.intervals in
-      let by_weights : Facts p ws told = subst (λ vs. Facts p vs told) (weights_are before) (s.outcome.1, s.told, s.lawful) in
-      let by_units : Facts p ws us = subst (λ zs. Facts p ws zs) (energies_are after) by_weights in
-      let f : Facts (pool_of before) ws us = subst (λ q. Facts q ws us) is by_units in
+      let f : Shareable (pool_of before) ws × (us ≡ shares (pool_of before) ws) × Apportioned (pool_of before) ws us =
+      rw (← is, ← weights_are before, ← energies_are after) (s.outcome.1, s.told, s.lawful) in
       let long : length ws ≡ hour_length = length-map (tags_of before) weight ∙ tags_long before in
       record {
         outcome = (f.0, f.1);
         kept = tt;
-        same_tags = same_tags after before (ap (map (λ i. i.tag)) s.outcome.2 ∙ same_handed having of (λ i. i.tag) (λ i u. refl) before.intervals (shares p (map weighs before.intervals)));
+        same_tags = ap (map (λ i. i.tag)) s.outcome.2 ∙ same_handed having of (λ i. i.tag) (λ i u. refl) before.intervals (shares p (map weighs before.intervals));
         within = within_limits (tags_of before) (tags_long before);
         in_full = f.2.in_full f.0;
         near = λ i h. record { near = λ some. f.2.near i some (omega arith); none = λ none. f.2.no_weight i none (omega arith) };
@@ -68,13 +62,14 @@ module _ (shares : ℤ → List ℕ → List ℤ) (p : ℤ) (before after : TieH
   pub refused_hour : {T : Type 0} (f : SharingFault) (d : DeemedFault) → d.0 ≡ f → SharedAmong {T = T} shares p before after (Err f) → Deemed {T = T} shares before after (Err d)
   refused_hour f d whole s =
       let ws : List ℕ = weights_of before in
-      let by_weights : Refused p ws f = subst (λ vs. Refused p vs f) (weights_are before) s.outcome in
       let within : Within (pool_of before) ws = within_limits (tags_of before) (tags_long before) in
-      let only = only_no_weight (pool_of before) ws f within (subst (λ q. Refused q ws f) is by_weights) in
+      let why : Refused (pool_of before) ws f = rw (← is, ← weights_are before) s.outcome in
+      let only = only_no_weight (pool_of before) ws f within why in
+      let same : after ≡ before = same_hour after before s.kept in
       record {
         outcome = (whole ∙ only.0, only.1, only.2);
-        kept = same_hour after before s.kept;
-        same_tags = same_tags after before (ap (map (λ i. i.tag)) s.kept);
+        kept = same;
+        same_tags = ap tags_of same;
         within = within;
         in_full = tt;
         near = tt;
@@ -83,4 +78,4 @@ module _ (shares : ℤ → List ℕ → List ℤ) (p : ℤ) (before after : TieH
 -- what the tags schedule, interval by interval
 pub scheduled : (ts : List Tag) (us : List Units) → us ≡ map (λ t. t.kw) ts → DeemedStatic ts us
 scheduled ts us is =
-    record { each = is; in_full = ap (λ l. total (energies l)) is ∙ ap total (map-map (λ (u : Units). u.0) (λ (t : Tag). t.kw) ts) }
+    record { each = is; in_full = rw is (simp map-map) }

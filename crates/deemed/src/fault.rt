@@ -7,6 +7,7 @@ use sharing::SharingFault;
 #[derive(Clone, Copy, PartialEq, Eq, Debug)]
 pub struct DeemedFault(pub SharingFault);
 
+// By hand: no contract says what fault a derived `From` makes.
 impl From<SharingFault> for DeemedFault {
     ghost from_gives = { λ fault r. r.0 ≡ fault };
 

@@ -11,6 +11,7 @@ pub struct Units(pub i64);
 #[derive(Clone, Copy, PartialEq, Eq, Debug)]
 pub struct TelemetrySteps(pub u32);
 
+// Energy and money have types of their own: as one generic type each value would carry a marker of its unit.
 impl Quantity for Units {
     ghost amount = { λ u. u.0 };
 

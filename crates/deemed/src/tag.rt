@@ -4,8 +4,6 @@ ghost use Rattle.deemed.specs.Ranges.{most_kw, most_telemetry};
 
 use super::quantities::{TelemetrySteps, Units};
 
-pub mod methods;
-
 // The largest kw of a tag, either way.
 pub const MOST_KW: u64 = 10_000_000;
 
@@ -20,4 +18,71 @@ pub struct Tag {
     curtailed: bool,
     ghost scheduled: { unsigned_abs kw.0 ≤ most_kw },
     ghost metered: { telemetry.0 ≤ most_telemetry },
+}
+
+impl Tag {
+    ghost use Rattle.std.specs.Prelude.{◌≡◌, false, pos, Some};
+    ghost use Rattle.deemed.specs.Tags.{Tagged, Weighs, flowed, weight};
+
+    // What stands for an interval without a tag: nothing scheduled or metered, and not curtailed. It is a tag and no
+    // `Option`, since an hour takes twelve tags.
+    pub fn none() -> Tag
+        ensures { Tagged (record { 0 = pos 0 }) (record { 0 = 0 }) false (Some result) }
+    {
+        Tag {
+            kw: Units(0),
+            telemetry: TelemetrySteps(0),
+            curtailed: false,
+        }
+    }
+
+    // A tag with these figures, or nothing where one is outside its range.
+    pub fn new(kw: Units, telemetry: TelemetrySteps, curtailed: bool) -> Option<Tag>
+        ensures { Tagged kw telemetry curtailed result }
+    {
+        if kw.0.unsigned_abs() > MOST_KW || telemetry.0 > MOST_TELEMETRY {
+            return None;
+        }
+        Some(Tag {
+            kw,
+            telemetry,
+            curtailed,
+        })
+    }
+
+    // The scheduled energy of the interval.
+    pub fn kw(self) -> Units
+        ensures { result ≡ self.kw }
+    {
+        self.kw
+    }
+
+    pub fn telemetry(self) -> TelemetrySteps
+        ensures { result ≡ self.telemetry }
+    {
+        self.telemetry
+    }
+
+    pub fn is_curtailed(self) -> bool
+        ensures { result ≡ self.curtailed }
+    {
+        self.curtailed
+    }
+
+    // What the interval weighs where the energy of its hour is shared.
+    #[tactic(auto, unfolding(crate::specs::Tags::interval_weight))]
+    pub fn weight(self) -> u32
+        ensures value { result ≡ weight self }
+        ensures cases { Weighs self.kw.0 self.telemetry.0 self.curtailed result }
+    {
+        let steps = self.telemetry.0.max(1);
+        if self.flowed() { steps } else { 0 }
+    }
+
+    // Whether energy flowed on the tag.
+    fn flowed(self) -> bool
+        ensures { result ≡ flowed self.kw.0 self.curtailed }
+    {
+        !self.curtailed && self.kw.0 != 0
+    }
 }

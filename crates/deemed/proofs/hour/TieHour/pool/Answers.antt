@@ -1,34 +1,26 @@
-use Rattle.std.proofs.Common.{◌≤◌, map, length, get_or, take, ap, ◌∙◌, arith, w64}
-use Rattle.std.proofs.lemmas.List.{take_all, length-take-le}
-use Rattle.std.proofs.lemmas.Int.{ints, to_z-of_z}
-use Rattle.sharing.specs.Laws.{total}
+use Rattle.std.proofs.Common.{◌≡◌, map, length, ap, ◌∙◌, rules, arith, w64, Bor, pos, ◌+ℤ◌}
+use Rattle.std.proofs.lemmas.Int.{to_z-of_z, fits_signed_from_abs}
+use Rattle.std.proofs.lemmas.Iterator.{YieldsList-from_slice, YieldsList-from_map}
+use Rattle.std.proofs.lemmas.Iterator.Adapters.{total_from_yields_List}
 use Rattle.deemed.specs.Ranges.{most_kw}
 use Rattle.deemed.specs.declared.hour.Interval.{Interval}
 use Rattle.deemed.proofs.Intervals.{pool_is}
-use Rattle.deemed.proofs.Totals.{total_more, total_within}
+use Rattle.deemed.proofs.Totals.{total_within}
 use Rattle.deemed.proofs.hour.TieHour.pool.Goals as goal
 
-pub overflow_add-total : goal.overflow_add-total
-overflow_add-total c =
-    let h = c.args.self.now in
-    let i = c.loop-interval.interval-index in
-    let in_hour : i ≤ length h.intervals = omega (arith, h.long) in
-    let sofar = total_within (λ (x : Interval). x.tag.kw.0) most_kw (λ x. x.tag.scheduled) (take i h.intervals) in
-    let long = length-take-le i h.intervals in_hour in
-    let kw = ap (λ u. u.0) c.kw-total.ensures in
-    let one = (get_or h.intervals i c.interval-item.result).tag.scheduled in
-    omega (arith, ints, c.loop-interval.invariant)
-
-pub loop-interval-preserved : goal.loop-interval-preserved
-loop-interval-preserved c =
-    let h = c.args.self.now in
-    let i = c.loop-interval.interval-index in
-    let kw = ap (λ u. u.0) c.kw-total.ensures in
-    let one = (get_or h.intervals i c.interval-item.result).tag.scheduled in
-    let more = total_more (λ (x : Interval). x.tag.kw.0) h.intervals i c.interval-item.result (omega (arith, h.long)) in
-    to_z-of_z w64 _ (overflow_add-total c) ∙ omega (arith, ints, c.loop-interval.invariant)
+pub sum-requires-clause-fits : goal.sum-requires-clause-fits
+sum-requires-clause-fits c = λ p seen from.
+    let kw = λ (i : Bor Interval). i.now.tag.kw.0 in
+    let mapped = c.map-scheduled.ensures.runs p seen from in
+    let each : p.items ≡ map kw mapped.0.items = mapped.2.3 kw (λ x r q k. search rules) in
+    let within = total_within kw most_kw (λ i. i.now.tag.scheduled) mapped.0.items in
+    let few = (c.iter.ensures.runs mapped.0 mapped.0.seen).0 in
+    let long = ap (λ i. length i.rest.now) mapped.1 in
+    rw each (fits_signed_from_abs w64 _ (omega (arith, mapped.0.long, c.args.self.now.long, ap length c.iter.ensures.rest)))
 
 pub returns : goal.returns
 returns c =
     let h = c.args.self.now in
-    c.loop-interval.invariant ∙ ap (λ l. total (map (λ (x : Interval). x.tag.kw.0) l)) (take_all c.loop-interval.interval-index h.intervals (omega (arith, h.long))) ∙ pool_is h
+    let kw = λ (i : Interval). i.tag.kw.0 in
+    let is = total_from_yields_List ◌+ℤ◌ (pos 0) c.sum.result c.sum.ensures.ran (YieldsList-from_map _ kw (YieldsList-from_slice h.intervals cc) c.map-scheduled.ensures.closure (λ x r q k. search rules)) in
+    to_z-of_z w64 _ (search rules) ∙ is ∙ pool_is h

@@ -5,8 +5,7 @@ use Rattle.deemed.proofs.hour.TieHour.share.Goals as goal
 pub returns-in_err-share_out : goal.returns-in_err-share_out
 returns-in_err-share_out g c =
     let p = err_from_is_err_and c.from_residual.result c.from_residual.ensures.1 in
-    rw p.1 (refused_hour (g.R.SharingRule.shares c.args.rule.now) c.pool-pool.result.0 c.args.self.now _ c.pool-pool.ensures c.in_err-share_out.field-0.0 p.0 p.2 c.in_err-share_out.ensures)
+    rw p.1 (refused_hour c.pool-pool.ensures _ p.0 p.2 c.in_err-share_out.ensures)
 
 pub returns : goal.returns
-returns g c =
-    shared_hour (g.R.SharingRule.shares c.args.rule.now) c.pool-pool.result.0 c.args.self.now _ c.pool-pool.ensures tt c.in_ok-share_out.ensures
+returns g c = shared_hour c.pool-pool.ensures tt c.in_ok-share_out.ensures

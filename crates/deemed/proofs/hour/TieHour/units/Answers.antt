@@ -1,13 +1,8 @@
-use Rattle.std.proofs.Common.{refl, ◌∙◌, arith}
-use Rattle.sharing.proofs.Collected.{collected_more, collected_whole}
-use Rattle.deemed.specs.Ranges.{hour_length}
-use Rattle.deemed.proofs.Intervals.{units_are}
+use Rattle.std.proofs.Common.{rules}
+use Rattle.deemed.specs.Hours.{units_of}
+use Rattle.deemed.proofs.Arrays.{map-from_IsMapOf}
 use Rattle.deemed.proofs.hour.TieHour.units.Goals as goal
 
-pub loop-i-preserved : goal.loop-i-preserved
-loop-i-preserved c =
-    collected_more _ c.args.self.now.intervals hour_length c.loop-i.units c.loop-i.i _ c.interval-item.result (omega (arith, c.args.self.now.long)) c.loop-i-test.true c.loop-i.invariant refl
-
 pub returns : goal.returns
-returns c =
-    collected_whole _ c.args.self.now.intervals hour_length c.loop-i.units c.loop-i.i c.args.self.now.long c.loop-i-test.false c.loop-i.auto.i-end c.loop-i.invariant ∙ units_are c.args.self.now
+unfolding units_of
+returns c = map-from_IsMapOf _ (λ i. i.deemed) c.args.self.now.long c.map.ensures.items (λ p q i u k. search rules)

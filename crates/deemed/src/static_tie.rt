@@ -1,0 +1,13 @@
+// A static tie's hour.
+ghost use Rattle.deemed.specs.Deemed.{DeemedStatic};
+
+use super::hour::INTERVALS;
+use super::quantities::Units;
+use super::tag::Tag;
+
+// The deemed energies of a static tie's hour: in each interval what its tag schedules.
+pub fn static_units(tags: [Tag; INTERVALS]) -> [Units; INTERVALS]
+    ensures { DeemedStatic tags result }
+{
+    tags.map(|tag| tag.kw())
+}
