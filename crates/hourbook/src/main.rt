@@ -8,11 +8,10 @@ ghost use Rattle.std.specs.Prelude.{◌≡◌, map, IfOk};
 ghost use Rattle.hourbook.specs.Entered.{entered};
 
 use parties::{Cents, Party};
-use sharing::{LargestRemainder, Quantity, Running, share_out};
+use sharing::{LargestRemainder, Running};
 use std::alloc::{AllocError, Global};
-use std::io;
-use std::io::{BufWriter, Write};
-use table::{print_header, print_row};
+use std::io::{self, BufWriter, Write};
+use table::{HEADER, print_shared};
 
 // A pool, and the demands by which it is shared.
 struct Sample {
@@ -52,25 +51,28 @@ const SAMPLES: [Sample; 6] = [
 fn enter(heap: Global, demands: &[u32]) -> Result<Vec<Party>, AllocError>
     ensures { IfOk result (λ v. v.items ≡ map entered demands.now) }
 {
-    let mut parties = Vec::with_capacity(heap, demands.len())?;
-    for demand in demands {
-        parties.push(Party {
-            demand: *demand,
+    demands
+        .iter()
+        .map(|&demand| Party {
+            demand,
             due: Cents(0),
-        })?;
-    }
-    Ok(parties)
+        })
+        .collect(heap)
 }
 
 fn main(rt: HostRuntime) -> io::Result<()> {
     let mut out = BufWriter::new(rt.alloc(), rt.stdout())?;
-    print_header(&mut out)?;
-    for Sample { pool, demands } in SAMPLES.iter() {
+    writeln!(out, "{HEADER}")?;
+    for &Sample { pool, demands } in &SAMPLES {
         let mut parties = enter(rt.alloc(), demands)?;
-        let outcome = share_out(&LargestRemainder, *pool, &mut parties);
-        print_row(&mut out, *pool, "largest remainder", &parties, outcome)?;
-        let outcome = share_out(&Running, *pool, &mut parties);
-        print_row(&mut out, *pool, "running", &parties, outcome)?;
+        print_shared(
+            &mut out,
+            pool,
+            "largest remainder",
+            &LargestRemainder,
+            &mut parties,
+        )?;
+        print_shared(&mut out, pool, "running", &Running, &mut parties)?;
     }
     out.flush()
 }

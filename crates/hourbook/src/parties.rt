@@ -6,6 +6,7 @@ use sharing::{Quantity, Recipient};
 #[derive(Clone, Copy, PartialEq, Eq, Debug)]
 pub struct Cents(pub i64);
 
+// Money and energy have types of their own: as one generic type each value would carry a marker of its unit.
 impl Quantity for Cents {
     ghost amount = { λ c. c.0 };
 
@@ -29,6 +30,7 @@ pub struct Party {
     pub due: Cents,
 }
 
+// Each kind of recipient weighs in its own way; what all owe is the trait.
 impl Recipient for Party {
     type Unit = Cents;
 

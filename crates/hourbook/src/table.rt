@@ -1,41 +1,56 @@
 // A table of shared pools: what no contract can speak of, held to the stored output.
 use super::parties::{Cents, Party};
-use sharing::{Quantity, Recipient, SharingFault};
-use std::io;
+use sharing::{Quantity, Recipient, SharingFault, SharingRule, share_out};
 use std::io::Write;
+use std::{fmt, io};
+
+pub(super) const HEADER: &str = "  pool  rule               weights         shares";
 
 // How many weights a row has room for.
 const COLUMNS: usize = 3;
 
-pub(super) fn print_header(out: &mut impl Write) -> io::Result<()> {
-    writeln!(out, "  pool  rule               weights         shares")
+// A pool with its rule, the parties' weights, and their shares or the refusal.
+#[derive(Clone, Copy)]
+struct Row<'a> {
+    pool: Cents,
+    rule: &'a str,
+    parties: &'a [Party],
+    outcome: Result<(), SharingFault>,
 }
 
-// A pool with its rule, the parties' weights, and their shares or the refusal.
-pub(super) fn print_row(
+impl fmt::Display for Row<'_> {
+    fn fmt<W: fmt::Write>(&self, f: &mut fmt::Formatter<W>) -> fmt::Result {
+        write!(f, "{:>6}  {:<17}", self.pool.count(), self.rule)?;
+        for party in self.parties.iter().take(COLUMNS) {
+            write!(f, "{:>4}", party.weight())?;
+        }
+        for _ in self.parties.len()..COLUMNS {
+            write!(f, "    ")?;
+        }
+        if let Err(fault) = self.outcome {
+            return write!(f, "  refused {}", fault.number());
+        }
+        for party in self.parties {
+            write!(f, "{:>6}", party.share().count())?;
+        }
+        Ok(())
+    }
+}
+
+// Shares a pool among the parties by a rule, and prints the row. A name and its rule meet only here.
+pub(super) fn print_shared<R: SharingRule>(
     out: &mut impl Write,
     pool: Cents,
-    rule: &str,
-    parties: &[Party],
-    outcome: Result<(), SharingFault>,
+    name: &str,
+    rule: &R,
+    parties: &mut [Party],
 ) -> io::Result<()> {
-    write!(out, "{:>6}  {rule:<17}", pool.count())?;
-    for i in 0..COLUMNS {
-        match parties.get(i) {
-            Some(party) => write!(out, "{:>4}", party.weight())?,
-            None => write!(out, "    ")?,
-        }
-    }
-    match outcome {
-        Ok(()) => print_shares(out, parties)?,
-        Err(fault) => write!(out, "  refused {}", fault.number())?,
-    }
-    writeln!(out)
-}
-
-fn print_shares(out: &mut impl Write, parties: &[Party]) -> io::Result<()> {
-    for party in parties {
-        write!(out, "{:>6}", party.share().count())?;
-    }
-    Ok(())
+    let outcome = share_out(rule, pool, parties);
+    let row = Row {
+        pool,
+        rule: name,
+        parties,
+        outcome,
+    };
+    writeln!(out, "{row}")
 }
