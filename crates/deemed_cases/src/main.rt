@@ -1,10 +1,11 @@
 // Shares the energy of each tie's hour of the input, to be compared with an independent calculation.
 #![tactic(auto)]
 
-use anyhow::anyhow;
+use anyhow::{bail, ensure};
 use deemed::{DeemedFault, INTERVALS, Tag, TelemetrySteps, TieHour, Units, static_units};
 use sharing::{LargestRemainder, Running, SharingRule};
 use std::io::{BufRead, BufReader, BufWriter, Write};
+use std::{fmt, io};
 
 // One tag of a line, as `kw/telemetry/curtailed`; nothing where a figure is out of range.
 fn read(word: &str) -> anyhow::Result<Option<Tag>> {
@@ -14,70 +15,73 @@ fn read(word: &str) -> anyhow::Result<Option<Tag>> {
         figures.next(),
         figures.next(),
     ) else {
-        return Err(anyhow!("a tag has three figures"));
+        bail!("a tag has three figures");
     };
-    let kw = Units(kw.parse::<i64>()?);
-    let telemetry = TelemetrySteps(telemetry.parse::<u32>()?);
+    let kw = Units(kw.parse()?);
+    let telemetry = TelemetrySteps(telemetry.parse()?);
     Ok(Tag::new(kw, telemetry, curtailed == "1"))
 }
 
-fn print_units(out: &mut impl Write, units: [Units; INTERVALS]) -> anyhow::Result<()> {
-    for energy in units.iter() {
-        write!(out, " {}", energy.0)?;
+// The tags of a line in their intervals; nothing where one is out of range.
+fn enter(line: &str) -> anyhow::Result<Option<[Tag; INTERVALS]>> {
+    let mut words = line.split(' ');
+    let mut tags = [Tag::none(); INTERVALS];
+    for (place, word) in tags.iter_mut().zip(words.by_ref()) {
+        let Some(tag) = read(word)? else {
+            return Ok(None);
+        };
+        *place = tag;
     }
-    writeln!(out)?;
-    Ok(())
+    let Some(word) = words.next() else {
+        return Ok(Some(tags));
+    };
+    // out of range comes first, also of a thirteenth tag
+    ensure!(read(word)?.is_none(), "an hour has twelve tags");
+    Ok(None)
 }
 
+// A letter, and a figure for each interval. Each line is one call, which a type with `Display` would make longer.
+fn print_row<T: fmt::Display + Copy>(
+    out: &mut impl Write,
+    letter: char,
+    figures: [T; INTERVALS],
+) -> io::Result<()> {
+    write!(out, "{letter}")?;
+    for figure in figures {
+        write!(out, " {figure}")?;
+    }
+    writeln!(out)
+}
+
+// The deemed energies under a rule, or the refusal. A letter and its rule meet only here.
 fn print_shared<R: SharingRule>(
     out: &mut impl Write,
+    letter: char,
     mut hour: TieHour,
     rule: &R,
-) -> anyhow::Result<()> {
+) -> io::Result<()> {
     match hour.share(rule) {
-        Ok(()) => print_units(out, hour.units())?,
-        Err(DeemedFault(fault)) => writeln!(out, " refused {}", fault.number())?,
+        Ok(()) => print_row(out, letter, hour.units().map(|energy| energy.0)),
+        Err(DeemedFault(fault)) => writeln!(out, "{letter} refused {}", fault.number()),
     }
-    Ok(())
 }
 
-fn print_tie(out: &mut impl Write, tags: [Tag; INTERVALS]) -> anyhow::Result<()> {
+// The layout is this program's own: a crate for what is like another's would be no plainer.
+fn print_tie(out: &mut impl Write, tags: [Tag; INTERVALS]) -> io::Result<()> {
     let hour = TieHour::new(tags);
-    write!(out, "W")?;
-    for weight in hour.weights().iter() {
-        write!(out, " {weight}")?;
-    }
-    write!(out, "\nL")?;
-    print_shared(out, hour, &LargestRemainder)?;
-    write!(out, "R")?;
-    print_shared(out, hour, &Running)?;
-    write!(out, "S")?;
-    print_units(out, static_units(tags))
+    print_row(out, 'W', hour.weights())?;
+    print_shared(out, 'L', hour, &LargestRemainder)?;
+    print_shared(out, 'R', hour, &Running)?;
+    print_row(out, 'S', static_units(tags).map(|energy| energy.0))
 }
 
-// The tags of a line in their intervals; whether all are in range.
-fn enter(line: &str, tags: &mut [Tag; INTERVALS]) -> anyhow::Result<bool> {
-    for (i, word) in line.split(' ').enumerate() {
-        let Some(tag) = read(word)? else {
-            return Ok(false);
-        };
-        if i >= INTERVALS {
-            return Err(anyhow!("an hour has twelve tags"));
-        }
-        tags[i] = tag;
-    }
-    Ok(true)
-}
-
+// As in the other program of cases: a crate for this loop would be no plainer.
 fn run(rt: &HostRuntime) -> anyhow::Result<()> {
     let mut out = BufWriter::new(rt.alloc(), rt.stdout())?;
     for line in BufReader::new(rt.alloc(), rt.stdin())?.lines(rt.alloc()) {
-        let line = line?;
-        let mut tags = [Tag::none(); INTERVALS];
-        if enter(line.as_str(), &mut tags)? {
-            print_tie(&mut out, tags)?;
-        } else {
-            writeln!(out, "out of range")?;
+        match enter(line?.as_str())? {
+            Some(tags) => print_tie(&mut out, tags)?,
+            None => writeln!(out, "out of range")?,
         }
     }
     out.flush()?;

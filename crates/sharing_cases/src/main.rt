@@ -1,10 +1,10 @@
 // Shares each pool of the input under both rules, to be compared with an independent calculation.
 #![tactic(auto)]
 
-use anyhow::anyhow;
+use anyhow::Context;
 use sharing::{LargestRemainder, Running, SharingRule};
 use std::alloc::Global;
-use std::io::{BufRead, BufReader, BufWriter, Write};
+use std::io::{self, BufRead, BufReader, BufWriter, Write};
 
 // A pool, and the weights by which it is shared.
 #[derive(Drop)]
@@ -16,39 +16,40 @@ struct Case {
 // A line of the input: a pool and its weights.
 fn read(heap: Global, line: &str) -> anyhow::Result<Case> {
     let mut numbers = line.split(' ');
-    let pool = match numbers.next() {
-        Some(word) => word.parse::<i64>()?,
-        None => return Err(anyhow!("no pool")),
-    };
-    let mut weights = Vec::new(heap);
-    for word in numbers {
-        weights.push(word.parse::<u32>()?)?;
-    }
+    let pool = numbers.next().context("no pool")?.parse()?;
+    let weights = numbers
+        .map(|word| -> anyhow::Result<u32> { Ok(word.parse()?) })
+        .try_collect(heap)?;
     Ok(Case { pool, weights })
 }
 
-fn print<R: SharingRule>(out: &mut impl Write, rule: &R, case: &Case) -> anyhow::Result<()> {
+// The shares under a rule, or the refusal, after the rule's letter. A letter and its rule meet only here. Each line is one
+// call, which a type with `Display` would make longer.
+fn print<R: SharingRule>(
+    out: &mut impl Write,
+    letter: char,
+    rule: &R,
+    case: &Case,
+) -> io::Result<()> {
+    write!(out, "{letter}")?;
     match rule.share(case.pool, &case.weights) {
-        Ok(answer) => {
-            for share in answer.as_slice() {
+        Ok(shares) => {
+            for share in shares.as_slice() {
                 write!(out, " {share}")?;
             }
         }
         Err(fault) => write!(out, " refused {}", fault.number())?,
     }
-    writeln!(out)?;
-    Ok(())
+    writeln!(out)
 }
 
+// As in the other program of cases: a crate for this loop would be no plainer.
 fn run(rt: &HostRuntime) -> anyhow::Result<()> {
     let mut out = BufWriter::new(rt.alloc(), rt.stdout())?;
     for line in BufReader::new(rt.alloc(), rt.stdin())?.lines(rt.alloc()) {
-        let line = line?;
-        let case = read(rt.alloc(), line.as_str())?;
-        write!(out, "L")?;
-        print(&mut out, &LargestRemainder, &case)?;
-        write!(out, "R")?;
-        print(&mut out, &Running, &case)?;
+        let case = read(rt.alloc(), line?.as_str())?;
+        print(&mut out, 'L', &LargestRemainder, &case)?;
+        print(&mut out, 'R', &Running, &case)?;
     }
     out.flush()?;
     Ok(())
