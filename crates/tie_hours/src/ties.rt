@@ -1,86 +1,33 @@
 // The hours of some dynamic ties: what no contract can speak of, held to the stored output.
-ghost use Rattle.std.specs.Prelude.{◌≡◌};
-ghost use Rattle.tie_hours.specs.Ties.{figures_of};
-
-use anyhow::anyhow;
-use deemed::{DeemedFault, INTERVALS, Tag, TelemetrySteps, TieHour, Units, static_units};
-use sharing::{LargestRemainder, Quantity, Running, SharingRule};
+use deemed::{DeemedFault, INTERVALS, Tag, TieHour, static_units};
+use sharing::{LargestRemainder, Running, SharingRule};
 use std::io::Write;
-use std::{fmt, io};
+use std::{array, fmt, io};
 
-// A tag's kw, telemetry, and whether it was curtailed.
-type Figures = (Units, TelemetrySteps, bool);
-
-// The tags of each tie, from the first interval on.
-pub(super) const TIES: [&'static [Figures]; 4] = [
-    &[
-        (Units(300), TelemetrySteps(200), false),
-        (Units(300), TelemetrySteps(0), false),
-    ],
-    &[
-        (Units(300), TelemetrySteps(200), false),
-        (Units(300), TelemetrySteps(0), true),
-    ],
-    &[
-        (Units(-40), TelemetrySteps(7), false),
-        (Units(-30), TelemetrySteps(7), false),
-        (Units(-20), TelemetrySteps(7), false),
-        (Units(-10), TelemetrySteps(7), true),
-    ],
-    &[
-        (Units(300), TelemetrySteps(200), true),
-        (Units(0), TelemetrySteps(50), false),
-    ],
-];
-
-// The figures of an interval, which are 0 past the last.
-fn figures_at(tie: &[Figures], i: usize) -> Figures
-    ensures { result ≡ figures_of tie.now i }
-{
-    if i < tie.len() {
-        return tie[i];
-    }
-    (Units(0), TelemetrySteps(0), false)
-}
-
-// A tie's hour, and its deemed energies under both rules and as a static tie.
-pub(super) fn print_tie(out: &mut impl Write, tie: &[Figures]) -> anyhow::Result<()> {
-    let mut tags = [Tag::none(); INTERVALS];
-    for i in 0..INTERVALS {
-        let (kw, telemetry, curtailed) = figures_at(tie, i);
-        let Some(tag) = Tag::new(kw, telemetry, curtailed) else {
-            return Err(anyhow!("a tag outside its range"));
-        };
-        tags[i] = tag;
-    }
+// A tie's hour, and its deemed energies under both rules and as a static tie. Its layout is this program's own: a crate for
+// what is like another's would be no plainer.
+pub(super) fn print_tie(out: &mut impl Write, tags: [Tag; INTERVALS]) -> io::Result<()> {
     let hour = TieHour::new(tags);
-    print_tags(out, &tags)?;
+    print_tags(out, tags)?;
     print_line(out, "weight", hour.weights())?;
     print_shared(out, "largest remainder", hour, &LargestRemainder)?;
     print_shared(out, "running", hour, &Running)?;
-    print_units(out, "static tie", static_units(tags))?;
-    Ok(())
+    print_line(out, "static tie", static_units(tags).map(|energy| energy.0))
 }
 
-fn print_tags(out: &mut impl Write, tags: &[Tag; INTERVALS]) -> io::Result<()> {
-    let mut intervals = [0usize; INTERVALS];
-    let mut kw = [0i64; INTERVALS];
-    let mut telemetry = [0u32; INTERVALS];
-    let mut curtailed = [0u8; INTERVALS];
-    for (i, tag) in tags.iter().enumerate() {
-        intervals[i] = i + 1;
-        kw[i] = tag.kw().count();
-        telemetry[i] = tag.telemetry().0;
-        curtailed[i] = u8::from(tag.is_curtailed());
-    }
+fn print_tags(out: &mut impl Write, tags: [Tag; INTERVALS]) -> io::Result<()> {
     writeln!(out)?;
-    print_line(out, "interval", intervals)?;
-    print_line(out, "kw", kw)?;
-    print_line(out, "telemetry", telemetry)?;
-    print_line(out, "curtailed", curtailed)
+    print_line(out, "interval", array::from_fn(|interval| interval + 1))?;
+    print_line(out, "kw", tags.map(|tag| tag.kw().0))?;
+    print_line(out, "telemetry", tags.map(|tag| tag.telemetry().0))?;
+    print_line(
+        out,
+        "curtailed",
+        tags.map(|tag| u8::from(tag.is_curtailed())),
+    )
 }
 
-// The deemed energies under a rule, or the refusal.
+// The deemed energies under a rule, or the refusal. A name and its rule meet only here.
 fn print_shared<R: SharingRule>(
     out: &mut impl Write,
     name: &str,
@@ -88,27 +35,19 @@ fn print_shared<R: SharingRule>(
     rule: &R,
 ) -> io::Result<()> {
     match hour.share(rule) {
-        Ok(()) => print_units(out, name, hour.units()),
+        Ok(()) => print_line(out, name, hour.units().map(|energy| energy.0)),
         Err(DeemedFault(fault)) => writeln!(out, "{name:<17}  refused {}", fault.number()),
     }
 }
 
-fn print_units(out: &mut impl Write, name: &str, units: [Units; INTERVALS]) -> io::Result<()> {
-    let mut counts = [0i64; INTERVALS];
-    for (i, energy) in units.iter().enumerate() {
-        counts[i] = energy.count();
-    }
-    print_line(out, name, counts)
-}
-
-// A figure for each interval.
+// A figure for each interval. Each line is one call, which a type with `Display` would make longer.
 fn print_line<T: fmt::Display + Copy>(
     out: &mut impl Write,
     name: &str,
     figures: [T; INTERVALS],
 ) -> io::Result<()> {
     write!(out, "{name:<17}")?;
-    for figure in figures.iter() {
+    for figure in figures {
         write!(out, "{figure:>5}")?;
     }
     writeln!(out)
