@@ -1,4 +1,4 @@
-// A table of shared pools: what no contract can speak of, held to the stored output.
+// A table of shared pools, whose layout is held to the stored output.
 use super::parties::{Cents, Party};
 use sharing::{Quantity, Recipient, SharingFault, SharingRule, share_out};
 use std::io::Write;

@@ -1,4 +1,4 @@
-// The hours of some dynamic ties: what no contract can speak of, held to the stored output.
+// The hours of some dynamic ties, whose layout is held to the stored output.
 use deemed::{DeemedFault, INTERVALS, Tag, TieHour, static_units};
 use sharing::{LargestRemainder, Running, SharingRule};
 use std::io::Write;
