@@ -1,1 +1,2 @@
-pub mod Entered
+pub mod Parties
+pub mod Tags

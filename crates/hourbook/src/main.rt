@@ -1,70 +1,25 @@
-// Shares a sample hour's offset, and some telling pools, under both rules.
+// Shares some pools of money, and then the energy of some ties' hours, under both rules.
 #![tactic(auto)]
 
 mod parties;
+mod pools;
 mod table;
+mod tags;
+mod ties;
 
-ghost use Rattle.std.specs.Prelude.{◌≡◌, map, IfOk};
-ghost use Rattle.hourbook.specs.Entered.{entered};
-
-use parties::{Cents, Party};
+use anyhow::Context;
+use pools::{SAMPLES, Sample, enter_parties};
 use sharing::{LargestRemainder, Running};
-use std::alloc::{AllocError, Global};
-use std::io::{self, BufWriter, Write};
+use std::io::{BufWriter, Write};
 use table::{HEADER, print_shared};
+use tags::{TIES, enter_tags};
+use ties::print_tie;
 
-// A pool, and the demands by which it is shared.
-struct Sample {
-    pool: Cents,
-    demands: &'static [u32],
-}
-
-// The first is the offset of the sample hour.
-const SAMPLES: [Sample; 6] = [
-    Sample {
-        pool: Cents(5000),
-        demands: &[1, 2],
-    },
-    Sample {
-        pool: Cents(100),
-        demands: &[1, 1, 1],
-    },
-    Sample {
-        pool: Cents(-100),
-        demands: &[1, 1, 1],
-    },
-    Sample {
-        pool: Cents(10),
-        demands: &[3, 0, 4],
-    },
-    Sample {
-        pool: Cents(5),
-        demands: &[0, 0],
-    },
-    Sample {
-        pool: Cents(0),
-        demands: &[0, 0],
-    },
-];
-
-// A party for each demand, with nothing due yet.
-fn enter(heap: Global, demands: &[u32]) -> Result<Vec<Party>, AllocError>
-    ensures { IfOk result (λ v. v.items ≡ map entered demands.now) }
-{
-    demands
-        .iter()
-        .map(|&demand| Party {
-            demand,
-            due: Cents(0),
-        })
-        .collect(heap)
-}
-
-fn main(rt: HostRuntime) -> io::Result<()> {
+fn run(rt: &HostRuntime) -> anyhow::Result<()> {
     let mut out = BufWriter::new(rt.alloc(), rt.stdout())?;
     writeln!(out, "{HEADER}")?;
     for &Sample { pool, demands } in &SAMPLES {
-        let mut parties = enter(rt.alloc(), demands)?;
+        let mut parties = enter_parties(rt.alloc(), demands)?;
         print_shared(
             &mut out,
             pool,
@@ -74,5 +29,14 @@ fn main(rt: HostRuntime) -> io::Result<()> {
         )?;
         print_shared(&mut out, pool, "running", &Running, &mut parties)?;
     }
-    out.flush()
+    for tie in TIES {
+        let tags = enter_tags(tie).context("a tag outside its range")?;
+        print_tie(&mut out, tags)?;
+    }
+    out.flush()?;
+    Ok(())
+}
+
+fn main(rt: HostRuntime) -> anyhow::Result<()> {
+    run(&rt)
 }

@@ -3,7 +3,7 @@ use Rattle.std.specs.Prelude.{ℕ, ◌<◌, false, List, Option, Some, None, pos
 use Rattle.deemed.specs.declared.tag.Tag.{Tag}
 use Rattle.deemed.specs.Ranges.{hour_length}
 use Rattle.deemed.specs.Tags.{Tagged}
-use Rattle.tie_hours.specs.declared.samples.Figures.{Figures}
+use Rattle.hourbook.specs.declared.tags.Figures.{Figures}
 
 -- where there is no tag, nothing is scheduled or metered, and nothing curtailed
 abbrev pub no_figures : Figures

@@ -1,5 +1,5 @@
 // Some dynamic ties, and the tags of their hours.
-ghost use Rattle.tie_hours.specs.Ties.{Entered, TaggedAt};
+ghost use Rattle.hourbook.specs.Tags.{Entered, TaggedAt};
 
 use deemed::{INTERVALS, Tag, TelemetrySteps, Units};
 
@@ -84,7 +84,7 @@ fn tag_at(tie: &[Figures], interval: usize) -> Option<Tag>
 }
 
 // The tags of a tie's hour, or nothing where one is out of range.
-pub(super) fn enter(tie: &[Figures]) -> Option<[Tag; INTERVALS]>
+pub(super) fn enter_tags(tie: &[Figures]) -> Option<[Tag; INTERVALS]>
     ensures { Entered tie.now result }
 {
     let mut tags = [Tag::none(); INTERVALS];

@@ -10,8 +10,8 @@ pub(super) fn print_tie(out: &mut impl Write, tags: [Tag; INTERVALS]) -> io::Res
     let hour = TieHour::new(tags);
     print_tags(out, tags)?;
     print_line(out, "weight", hour.weights())?;
-    print_shared(out, "largest remainder", hour, &LargestRemainder)?;
-    print_shared(out, "running", hour, &Running)?;
+    print_deemed(out, "largest remainder", hour, &LargestRemainder)?;
+    print_deemed(out, "running", hour, &Running)?;
     print_line(out, "static tie", static_units(tags).map(|energy| energy.0))
 }
 
@@ -28,7 +28,7 @@ fn print_tags(out: &mut impl Write, tags: [Tag; INTERVALS]) -> io::Result<()> {
 }
 
 // The deemed energies under a rule, or the refusal. A name and its rule meet only here.
-fn print_shared<R: SharingRule>(
+fn print_deemed<R: SharingRule>(
     out: &mut impl Write,
     name: &str,
     mut hour: TieHour,

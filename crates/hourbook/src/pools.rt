@@ -1,0 +1,53 @@
+// Pools of money that show how the rules share, and the parties that take them.
+ghost use Rattle.std.specs.Prelude.{◌≡◌, map, IfOk};
+ghost use Rattle.hourbook.specs.Parties.{entered};
+
+use super::parties::{Cents, Party};
+use std::alloc::{AllocError, Global};
+
+// A pool, and the demands by which it is shared.
+pub(super) struct Sample {
+    pub(super) pool: Cents,
+    pub(super) demands: &'static [u32],
+}
+
+// The first is the offset of a sample hour.
+pub(super) const SAMPLES: [Sample; 6] = [
+    Sample {
+        pool: Cents(5000),
+        demands: &[1, 2],
+    },
+    Sample {
+        pool: Cents(100),
+        demands: &[1, 1, 1],
+    },
+    Sample {
+        pool: Cents(-100),
+        demands: &[1, 1, 1],
+    },
+    Sample {
+        pool: Cents(10),
+        demands: &[3, 0, 4],
+    },
+    Sample {
+        pool: Cents(5),
+        demands: &[0, 0],
+    },
+    Sample {
+        pool: Cents(0),
+        demands: &[0, 0],
+    },
+];
+
+// A party for each demand, with nothing due yet.
+pub(super) fn enter_parties(heap: Global, demands: &[u32]) -> Result<Vec<Party>, AllocError>
+    ensures { IfOk result (λ v. v.items ≡ map entered demands.now) }
+{
+    demands
+        .iter()
+        .map(|&demand| Party {
+            demand,
+            due: Cents(0),
+        })
+        .collect(heap)
+}
