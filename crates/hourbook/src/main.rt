@@ -8,7 +8,7 @@ mod tags;
 mod ties;
 
 use anyhow::Context;
-use pools::{SAMPLES, Sample, enter_parties};
+use pools::{POOLS, SamplePool, enter_parties};
 use sharing::{LargestRemainder, Running};
 use std::io::{BufWriter, Write};
 use table::{HEADER, print_shared};
@@ -18,7 +18,7 @@ use ties::print_tie;
 fn run(rt: &HostRuntime) -> anyhow::Result<()> {
     let mut out = BufWriter::new(rt.alloc(), rt.stdout())?;
     writeln!(out, "{HEADER}")?;
-    for &Sample { pool, demands } in &SAMPLES {
+    for &SamplePool { pool, demands } in &POOLS {
         let mut parties = enter_parties(rt.alloc(), demands)?;
         print_shared(
             &mut out,

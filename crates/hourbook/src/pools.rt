@@ -6,34 +6,34 @@ use super::parties::{Cents, Party};
 use std::alloc::{AllocError, Global};
 
 // A pool, and the demands by which it is shared.
-pub(super) struct Sample {
+pub(super) struct SamplePool {
     pub(super) pool: Cents,
     pub(super) demands: &'static [u32],
 }
 
 // The first is the offset of a sample hour.
-pub(super) const SAMPLES: [Sample; 6] = [
-    Sample {
+pub(super) const POOLS: [SamplePool; 6] = [
+    SamplePool {
         pool: Cents(5000),
         demands: &[1, 2],
     },
-    Sample {
+    SamplePool {
         pool: Cents(100),
         demands: &[1, 1, 1],
     },
-    Sample {
+    SamplePool {
         pool: Cents(-100),
         demands: &[1, 1, 1],
     },
-    Sample {
+    SamplePool {
         pool: Cents(10),
         demands: &[3, 0, 4],
     },
-    Sample {
+    SamplePool {
         pool: Cents(5),
         demands: &[0, 0],
     },
-    Sample {
+    SamplePool {
         pool: Cents(0),
         demands: &[0, 0],
     },

@@ -4,8 +4,8 @@ use sharing::{LargestRemainder, Running, SharingRule};
 use std::io::Write;
 use std::{array, fmt, io};
 
-// A tie's hour, and its deemed energies under both rules and as a static tie. Its layout is this program's own: a crate for
-// what is like another's would be no plainer.
+// A tie's hour, and its deemed energies under both rules and as a static tie. `deemed_cases` prints such hours too, in a layout
+// of its own: a crate for what both share, a loop over figures, would be no plainer.
 pub(super) fn print_tie(out: &mut impl Write, tags: [Tag; INTERVALS]) -> io::Result<()> {
     let hour = TieHour::new(tags);
     print_tags(out, tags)?;
