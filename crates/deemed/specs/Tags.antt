@@ -1,5 +1,6 @@
 -- What the tags of a tie's hour schedule, and what its intervals weigh. Assumes nothing.
 use Rattle.std.specs.Prelude.{◌≡◌, ℕ, ◌<◌, ◌≤◌, max, Bool, true, false, cond, not, ◌&&◌, List, map, ℤ, pos, Some, None, Option, ◌≢◌, nat_lt, unsigned_abs}
+use Rattle.std.proofs.Common.{lit≤}
 use Rattle.sharing.specs.Laws.{total}
 use Rattle.deemed.specs.declared.quantities.Units.{Units}
 use Rattle.deemed.specs.declared.quantities.TelemetrySteps.{TelemetrySteps}
@@ -15,6 +16,10 @@ pub record Ranged (kw : Units) (telemetry : TelemetrySteps) : Type 0 where
 abbrev pub Tagged : Units → TelemetrySteps → Bool → Option Tag → Type 0
 Tagged kw telemetry curtailed (Some t) = (t.kw ≡ kw) × (t.telemetry ≡ telemetry) × (t.curtailed ≡ curtailed)
 Tagged kw telemetry curtailed None = Ranged kw telemetry → ⊥
+
+-- what stands for an interval without a tag: nothing scheduled or metered, and not curtailed
+abbrev pub no_tag : Tag
+no_tag = record { kw = record { 0 = pos 0 }; telemetry = record { 0 = 0 }; curtailed = false; scheduled = lit≤ tt; metered = lit≤ tt }
 
 -- energy flowed on a tag that was not curtailed and schedules some
 abbrev pub flowed : ℤ → Bool → Bool

@@ -21,13 +21,13 @@ pub struct Tag {
 }
 
 impl Tag {
-    ghost use Rattle.std.specs.Prelude.{◌≡◌, false, pos, Some};
-    ghost use Rattle.deemed.specs.Tags.{Tagged, Weighs, flowed, weight};
+    ghost use Rattle.std.specs.Prelude.{◌≡◌};
+    ghost use Rattle.deemed.specs.Tags.{Tagged, Weighs, flowed, no_tag, weight};
 
     // What stands for an interval without a tag: nothing scheduled or metered, and not curtailed. It is a tag and no
     // `Option`, since an hour takes twelve tags.
     pub fn none() -> Tag
-        ensures { Tagged (record { 0 = pos 0 }) (record { 0 = 0 }) false (Some result) }
+        ensures { result ≡ no_tag }
     {
         Tag {
             kw: Units(0),

@@ -1,0 +1,70 @@
+-- The calls: why each is refused, what it makes of the records, and what its refusal shows. Assumes nothing.
+use Rattle.std.specs.Prelude.{◌≡◌, ℕ, ◌&&◌, List, [], ◌∷◌, Option, Some, None, is_some, Result, ℤ, pos, unsigned_abs}
+use Rattle.std.specs.Option.{option_map_or}
+use Rattle.tables.specs.declared.refusal.Reason.{Reason}
+use Rattle.tables.specs.declared.refusal.Reason.TheVariants.{OutsideSpan, OutsideValues, NotEntered, AlreadyEntered, Misfit, Full}
+use Rattle.tables.specs.declared.refusal.Place.{Place}
+use Rattle.tables.specs.Refusals.{Fit, ◌when◌, ◌unless◌, first_fit, answered}
+use Rattle.tables.specs.Ranges.{is_id, is_flag, flag}
+use Rattle.tables.specs.Tables.{has_room, with_row}
+use Rattle.charges.specs.declared.call.Call.{Call}
+use Rattle.charges.specs.declared.call.Call.TheVariants.{EnterArea, EnterParty, EnterResource}
+use Rattle.charges.specs.declared.hour.Hour.{Hour}
+use Rattle.charges.specs.declared.kinds.AreaKind.{AreaKind}
+use Rattle.charges.specs.Kinds.{names_ciso}
+use Rattle.charges.specs.Rows.{new_area, new_party, new_resource}
+use Rattle.charges.specs.Hours.{area_of, party_of, resource_of, area_is_weim, party_is_of_ciso, any_ciso, any_party_in}
+
+-- the reasons for which a call is refused, in the order of their numbers
+abbrev pub reasons : Call → Hour → List (Fit Reason)
+reasons (EnterArea id kind) h =
+    OutsideSpan unless is_id id
+    ∷ OutsideValues unless is_some kind
+    ∷ AlreadyEntered when is_some (area_of h (unsigned_abs id))
+    ∷ Misfit when (names_ciso kind && any_ciso h.areas.rows)
+    ∷ Full unless has_room h.areas
+    ∷ []
+reasons (EnterParty id area) h =
+    OutsideSpan unless is_id id
+    ∷ OutsideSpan unless is_id area
+    ∷ NotEntered unless is_some (area_of h (unsigned_abs area))
+    ∷ AlreadyEntered when is_some (party_of h (unsigned_abs id))
+    ∷ Misfit when (area_is_weim h (unsigned_abs area) && any_party_in (unsigned_abs area) h.parties.rows)
+    ∷ Full unless has_room h.parties
+    ∷ []
+reasons (EnterResource id owner kind net exempt) h =
+    OutsideSpan unless is_id id
+    ∷ OutsideSpan unless is_id owner
+    ∷ OutsideValues unless is_some kind
+    ∷ OutsideValues unless is_flag net
+    ∷ OutsideValues unless is_flag exempt
+    ∷ NotEntered unless is_some (party_of h (unsigned_abs owner))
+    ∷ AlreadyEntered when is_some (resource_of h (unsigned_abs id))
+    ∷ Misfit unless party_is_of_ciso h (unsigned_abs owner)
+    ∷ Full unless has_room h.resources
+    ∷ []
+
+-- what an accepted call makes of the records
+abbrev pub made_by : Call → Hour → Hour
+made_by (EnterArea id None) h = h
+made_by (EnterArea id (Some kind)) h =
+    record h { areas = with_row h.areas (new_area (unsigned_abs id) kind) }
+made_by (EnterParty id area) h =
+    record h { parties = with_row h.parties (new_party (unsigned_abs id) (unsigned_abs area)) }
+made_by (EnterResource id owner None net exempt) h = h
+made_by (EnterResource id owner (Some kind) net exempt) h =
+    record h { resources = with_row h.resources (new_resource (unsigned_abs id) (unsigned_abs owner) kind (flag net) (flag exempt)) }
+
+-- what a call is about, as it gave it
+abbrev pub place_of : Call → Place
+place_of (EnterArea id kind) = record { interval = pos 0; id = id }
+place_of (EnterParty id area) = record { interval = pos 0; id = id }
+place_of (EnterResource id owner kind net exempt) = record { interval = pos 0; id = id }
+
+-- the answer to a call: the first reason that fits, if one does
+abbrev pub answer_to : Call → Hour → Result (Unit {0}) Reason
+answer_to call h = answered (first_fit (reasons call h))
+
+-- what a call leaves of the records: what it makes of them where no reason fits, and else just them
+abbrev pub left_by : Call → Hour → Hour
+left_by call h = option_map_or (λ r. h) (first_fit (reasons call h)) (made_by call h)

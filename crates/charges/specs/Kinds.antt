@@ -1,0 +1,36 @@
+-- The words of the kinds. Assumes nothing.
+use Rattle.std.specs.Prelude.{ℕ, Bool, true, false, List, [], ◌∷◌, Option, codes}
+use Rattle.std.specs.List.{find}
+use Rattle.std.specs.Option.{option_map_or}
+use Rattle.std.specs.Str.{bytes_eq}
+use Rattle.charges.specs.declared.kinds.AreaKind.{AreaKind}
+use Rattle.charges.specs.declared.kinds.AreaKind.TheVariants.{Ciso, Weim}
+use Rattle.charges.specs.declared.kinds.ResourceKind.{ResourceKind}
+use Rattle.charges.specs.declared.kinds.ResourceKind.TheVariants.{Plain, StaticTie, DynamicTie}
+
+abbrev pub area_word : AreaKind → List ℕ
+area_word Ciso = codes "C"
+area_word Weim = codes "W"
+
+abbrev pub resource_word : ResourceKind → List ℕ
+resource_word Plain = codes "P"
+resource_word StaticTie = codes "S"
+resource_word DynamicTie = codes "D"
+
+-- the one of some kinds whose word it is
+abbrev pub named : {K : Type 0} → (K → List ℕ) → List K → List ℕ → Option K
+named word_of kinds word = find (λ k. bytes_eq (word_of k) word) kinds
+
+abbrev pub area_kind : List ℕ → Option AreaKind
+area_kind word = named area_word (Ciso ∷ Weim ∷ []) word
+
+abbrev pub resource_kind : List ℕ → Option ResourceKind
+resource_kind word = named resource_word (Plain ∷ StaticTie ∷ DynamicTie ∷ []) word
+
+abbrev pub is_ciso : AreaKind → Bool
+is_ciso Ciso = true
+is_ciso Weim = false
+
+-- whether the CISO area's kind is named
+abbrev pub names_ciso : Option AreaKind → Bool
+names_ciso kind = option_map_or is_ciso kind false

@@ -1,0 +1,6 @@
+pub mod Ranges
+pub mod Figures
+pub mod Kinds
+pub mod Rows
+pub mod Hours
+pub mod Calls

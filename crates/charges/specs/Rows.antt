@@ -1,0 +1,75 @@
+-- The rows of the tables as they are entered, before anything is posted. Assumes nothing.
+use Rattle.std.specs.Prelude.{ℕ, Bool, false, None, replicate, pos}
+use Rattle.std.proofs.Common.{lit≤}
+use Rattle.deemed.specs.Ranges.{hour_length}
+use Rattle.deemed.specs.Tags.{no_tag}
+use Rattle.charges.specs.declared.kinds.AreaKind.{AreaKind}
+use Rattle.charges.specs.declared.kinds.ResourceKind.{ResourceKind}
+use Rattle.charges.specs.declared.area.Election.{Election}
+use Rattle.charges.specs.declared.area.SufficiencyTest.{SufficiencyTest}
+use Rattle.charges.specs.declared.area.Transfer.{Transfer}
+use Rattle.charges.specs.declared.area.Area.{Area}
+use Rattle.charges.specs.declared.party.GivenCents.{GivenCents}
+use Rattle.charges.specs.declared.party.Party.{Party}
+use Rattle.charges.specs.declared.resource.EnergyRecord.{EnergyRecord}
+use Rattle.charges.specs.declared.resource.Resource.{Resource}
+use Rattle.charges.specs.Ranges.{quarters}
+use Rattle.charges.specs.Figures.{zero_price, zero_cap, zero_energy, zero_volume, zero_given}
+
+-- an area is opted out
+abbrev pub no_election : Election
+no_election = record { opted_in = false; cap = zero_cap; up = zero_volume; nopay = zero_volume }
+
+abbrev pub no_test : SufficiencyTest
+no_test = record { capacity = zero_volume; ramp = zero_volume; nopay = zero_volume }
+
+abbrev pub no_transfer : Transfer
+no_transfer = record { to = zero_volume; base_to = zero_volume; from = zero_volume; base_from = zero_volume }
+
+abbrev pub new_area : ℕ → AreaKind → Area
+new_area id kind = record {
+  id = id;
+  kind = kind;
+  election = no_election;
+  tests = replicate quarters no_test;
+  transfers = replicate hour_length no_transfer;
+}
+
+abbrev pub nothing_given : GivenCents
+nothing_given = record {
+  pass_through = replicate hour_length zero_given;
+  cc_6474 = replicate hour_length zero_given;
+  cc_6475 = replicate hour_length zero_given;
+}
+
+abbrev pub new_party : ℕ → ℕ → Party
+new_party id area = record { id = id; area = area; demand = replicate hour_length zero_volume; given = nothing_given }
+
+-- no exceptional dispatch
+abbrev pub no_energy : EnergyRecord
+no_energy = record {
+  lmp = zero_price;
+  mss = zero_price;
+  resprice = zero_price;
+  edprice = zero_price;
+  iie = zero_energy;
+  oa = zero_energy;
+  mssiie = zero_energy;
+  res = zero_energy;
+  above = zero_energy;
+  edqty = zero_energy;
+  resflag = false;
+  ed = None;
+}
+
+abbrev pub new_resource : ℕ → ℕ → ResourceKind → Bool → Bool → Resource
+new_resource id owner kind net exempt = record {
+  id = id;
+  owner = owner;
+  kind = kind;
+  net = net;
+  exempt = exempt;
+  energy = replicate hour_length no_energy;
+  tags = replicate hour_length no_tag;
+  deemed = replicate hour_length (record { 0 = pos 0 });
+}

@@ -1,0 +1,106 @@
+// An area, with its election of assistance energy transfers, its sufficiency tests and its transfers.
+ghost use Rattle.std.specs.Prelude.{◌≡◌};
+ghost use Rattle.charges.specs.Rows.{no_election, no_test, no_transfer, new_area};
+ghost use Rattle.charges.specs.Kinds.{is_ciso};
+
+use super::figures::{BidCap, Volume};
+use super::kinds::AreaKind;
+use deemed::INTERVALS;
+use tables::HasId;
+
+// The quarters of an hour, each of three intervals.
+pub const QUARTERS: usize = 4;
+
+#[derive(Clone, Copy, PartialEq, Eq, Debug)]
+pub struct Election {
+    pub opted_in: bool,
+    pub cap: BidCap,
+    pub up: Volume,
+    pub nopay: Volume,
+}
+
+#[derive(Clone, Copy, PartialEq, Eq, Debug)]
+pub struct SufficiencyTest {
+    pub capacity: Volume,
+    pub ramp: Volume,
+    pub nopay: Volume,
+}
+
+#[derive(Clone, Copy, PartialEq, Eq, Debug)]
+pub struct Transfer {
+    pub to: Volume,
+    pub base_to: Volume,
+    pub from: Volume,
+    pub base_from: Volume,
+}
+
+#[derive(Drop)]
+pub struct Area {
+    pub id: u16,
+    pub kind: AreaKind,
+    pub election: Election,
+    pub tests: [SufficiencyTest; QUARTERS],
+    pub transfers: [Transfer; INTERVALS],
+}
+
+impl Election {
+    // What stands where nothing was posted: opted out.
+    pub fn none() -> Election
+        ensures { result ≡ no_election }
+    {
+        Election {
+            opted_in: false,
+            cap: BidCap::zero(),
+            up: Volume::zero(),
+            nopay: Volume::zero(),
+        }
+    }
+}
+
+impl SufficiencyTest {
+    pub fn none() -> SufficiencyTest
+        ensures { result ≡ no_test }
+    {
+        SufficiencyTest {
+            capacity: Volume::zero(),
+            ramp: Volume::zero(),
+            nopay: Volume::zero(),
+        }
+    }
+}
+
+impl Transfer {
+    pub fn none() -> Transfer
+        ensures { result ≡ no_transfer }
+    {
+        Transfer {
+            to: Volume::zero(),
+            base_to: Volume::zero(),
+            from: Volume::zero(),
+            base_from: Volume::zero(),
+        }
+    }
+}
+
+impl Area {
+    // An area as it is entered, for which nothing is posted yet.
+    pub(crate) fn new(id: u16, kind: AreaKind) -> Area
+        ensures { result ≡ new_area id kind }
+    {
+        Area {
+            id,
+            kind,
+            election: Election::none(),
+            tests: [SufficiencyTest::none(); QUARTERS],
+            transfers: [Transfer::none(); INTERVALS],
+        }
+    }
+}
+
+impl HasId for Area {
+    ghost key = { λ a. a.id };
+
+    fn id(&self) -> u16 {
+        self.id
+    }
+}

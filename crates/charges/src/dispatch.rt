@@ -1,0 +1,27 @@
+// The types of exceptional dispatch.
+#[derive(Clone, Copy, PartialEq, Eq, Debug)]
+pub enum DispatchType {
+    SysEmr,
+    SysEmr1,
+    Temr,
+    TModel,
+    TModel1,
+    TModel2,
+    TModel3,
+    TModel4,
+    TModel5,
+    TModel6,
+    TModel7,
+    TModel8,
+    TModel9,
+    TOrEtc,
+    TOrEtc1,
+    RmrR,
+    RmrS,
+    RmrT,
+    Slic,
+    Other,
+    NonTMod,
+    AsTest,
+    Test,
+}

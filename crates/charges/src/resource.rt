@@ -1,0 +1,87 @@
+// A resource, with the energy, the tag and the deemed energy of each of its intervals.
+ghost use Rattle.std.specs.Prelude.{◌≡◌};
+ghost use Rattle.charges.specs.Rows.{no_energy, new_resource};
+
+use super::dispatch::DispatchType;
+use super::figures::{Energy, Price};
+use super::kinds::ResourceKind;
+use deemed::{INTERVALS, Tag, Units};
+use tables::HasId;
+
+// The prices and energies of an interval.
+#[derive(Clone, Copy, PartialEq, Eq, Debug)]
+pub struct EnergyRecord {
+    pub lmp: Price,
+    pub mss: Price,
+    pub resprice: Price,
+    pub edprice: Price,
+    pub iie: Energy,
+    pub oa: Energy,
+    pub mssiie: Energy,
+    pub res: Energy,
+    pub above: Energy,
+    pub edqty: Energy,
+    pub resflag: bool,
+    pub ed: Option<DispatchType>,
+}
+
+// What is said of a resource where it is entered, beside its id and its owner.
+#[derive(Drop)]
+pub struct Resource {
+    pub id: u16,
+    pub owner: u16,
+    pub kind: ResourceKind,
+    pub net: bool,
+    pub exempt: bool,
+    pub energy: [EnergyRecord; INTERVALS],
+    pub tags: [Tag; INTERVALS],
+    pub deemed: [Units; INTERVALS],
+}
+
+impl EnergyRecord {
+    // What stands where nothing was posted.
+    pub fn none() -> EnergyRecord
+        ensures { result ≡ no_energy }
+    {
+        EnergyRecord {
+            lmp: Price::zero(),
+            mss: Price::zero(),
+            resprice: Price::zero(),
+            edprice: Price::zero(),
+            iie: Energy::zero(),
+            oa: Energy::zero(),
+            mssiie: Energy::zero(),
+            res: Energy::zero(),
+            above: Energy::zero(),
+            edqty: Energy::zero(),
+            resflag: false,
+            ed: None,
+        }
+    }
+}
+
+impl Resource {
+    // A resource as it is entered, for which nothing is posted yet.
+    pub(crate) fn new(id: u16, owner: u16, kind: ResourceKind, net: bool, exempt: bool) -> Resource
+        ensures { result ≡ new_resource id owner kind net exempt }
+    {
+        Resource {
+            id,
+            owner,
+            kind,
+            net,
+            exempt,
+            energy: [EnergyRecord::none(); INTERVALS],
+            tags: [Tag::none(); INTERVALS],
+            deemed: [Units(0); INTERVALS],
+        }
+    }
+}
+
+impl HasId for Resource {
+    ghost key = { λ r. r.id };
+
+    fn id(&self) -> u16 {
+        self.id
+    }
+}

@@ -1,0 +1,4 @@
+pub mod Refusals
+pub mod Ranges
+pub mod Rows
+pub mod Tables

@@ -1,0 +1,75 @@
+-- The refusals, and which of them a call meets. Assumes nothing.
+use Rattle.std.specs.Prelude.{◌≡◌, ℕ, Bool, true, false, not, cond, List, [], ◌∷◌, Option, Some, None, Result, Ok, Err, codes}
+use Rattle.tables.specs.declared.refusal.Reason.{Reason}
+use Rattle.tables.specs.declared.refusal.Reason.TheVariants.{Malformed, OutsideSpan, OutsideValues, NotEntered, AlreadyEntered, Misfit, Full, NoTieWeight, NoDemand, NoSurchargeWeight, LinesFull}
+use Rattle.tables.specs.declared.refusal.Part.{Part}
+use Rattle.tables.specs.declared.refusal.Part.TheVariants.{Sharing, Deemed, Charges, Statement, Reader}
+
+-- the number of a reason
+abbrev pub reason_number : Reason → ℕ
+reason_number Malformed = 1
+reason_number OutsideSpan = 2
+reason_number OutsideValues = 3
+reason_number NotEntered = 4
+reason_number AlreadyEntered = 5
+reason_number Misfit = 6
+reason_number Full = 7
+reason_number NoTieWeight = 8
+reason_number NoDemand = 9
+reason_number NoSurchargeWeight = 10
+reason_number LinesFull = 11
+
+-- a reason in words
+abbrev pub reason_message : Reason → List ℕ
+reason_message Malformed = codes "input that cannot be read"
+reason_message OutsideSpan = codes "an id, interval, quarter or line place outside its span"
+reason_message OutsideValues = codes "a field, code, kind or type outside its values"
+reason_message NotEntered = codes "an area, party or resource that is not entered"
+reason_message AlreadyEntered = codes "an id that is already entered"
+reason_message Misfit = codes "an area, party or resource of another kind than fits there"
+reason_message Full = codes "a full table, or no run left"
+reason_message NoTieWeight = codes "energy of a tie and no interval to share it by"
+reason_message NoDemand = codes "an offset and no demand to share it by"
+reason_message NoSurchargeWeight = codes "a surcharge of an area and no weight to share it by"
+reason_message LinesFull = codes "more new lines than there is room for"
+
+-- the number of a part
+abbrev pub part_number : Part → ℕ
+part_number Sharing = 1
+part_number Deemed = 2
+part_number Charges = 3
+part_number Statement = 4
+part_number Reader = 5
+
+-- a reason, and whether it fits
+pub record Fit (R : Type 0) : Type 0 where
+  pub reason : R
+  pub fits : Bool
+
+infixl 70 ◌when◌
+abbrev pub ◌when◌ : {R : Type 0} → R → Bool → Fit R
+r when b = record { reason = r; fits = b }
+
+infixl 70 ◌unless◌
+abbrev pub ◌unless◌ : {R : Type 0} → R → Bool → Fit R
+r unless b = record { reason = r; fits = not b }
+
+-- the first reason of a list that fits
+abbrev pub first_fit : {R : Type 0} → List (Fit R) → Option R
+first_fit [] = None
+first_fit (f ∷ fs) = cond f.fits (Some f.reason) (first_fit fs)
+
+-- the answer of a call, by the reason that it meets
+abbrev pub answered : {R : Type 0} → Option R → Result (Unit {0}) R
+answered None = Ok tt
+answered (Some r) = Err r
+
+-- what a call leaves: what it makes where it meets no reason, else what was there
+abbrev pub left_by : {R X : Type 0} → Option R → X → X → X
+left_by None made before = made
+left_by (Some r) made before = before
+
+-- the answer of one test: the value where it passes, else the reason
+abbrev pub Tested : {R X : Type 0} → Bool → X → R → Result X R → Type 0
+Tested passes x reason (Ok y) = (passes ≡ true) × (y ≡ x)
+Tested passes x reason (Err r) = (passes ≡ false) × (r ≡ reason)

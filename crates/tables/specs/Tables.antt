@@ -1,0 +1,34 @@
+-- Rows by their ids, and what is done with a table. Assumes nothing.
+use Rattle.std.specs.Prelude.{◌≡◌, ℕ, ◌==◌, nat_lt, Bool, true, false, List, [], ◌∷◌, ◌++◌, length, Option, is_some, find, position, Result, Ok, Err, IsTrue}
+use Rattle.tables.specs.Rows.{Table}
+use Rattle.tables.specs.declared.refusal.Reason.{Reason}
+use Rattle.tables.specs.declared.refusal.Reason.TheVariants.{Full}
+
+module _ {T : Type 0} where
+  -- the first row with an id
+  abbrev pub found : (T → ℕ) → ℕ → List T → Option T
+  found key id rows = find (λ x. key x == id) rows
+
+  -- its place, from 0
+  abbrev pub place : (T → ℕ) → ℕ → List T → Option ℕ
+  place key id rows = position (λ x. key x == id) rows
+
+  -- whether some row has the id
+  abbrev pub entered : (T → ℕ) → ℕ → List T → Bool
+  entered key id rows = is_some (found key id rows)
+
+  -- a table with room for so many rows, and none yet
+  abbrev pub opened : ℕ → Table T
+  opened most = record { rows = []; most = most }
+
+  abbrev pub has_room : Table T → Bool
+  has_room t = nat_lt (length t.rows) t.most
+
+  -- one row more
+  abbrev pub with_row : Table T → T → Table T
+  with_row t x = record t { rows = t.rows ++ x ∷ [] }
+
+  -- a row is added where there is room, and else the table is as it was
+  abbrev pub TriedToAdd : T → Table T → Table T → Result (Unit {0}) Reason → Type 0
+  TriedToAdd x before after (Ok _) = (has_room before ≡ true) × (after ≡ with_row before x)
+  TriedToAdd x before after (Err r) = (has_room before ≡ false) × (r ≡ Full) × (after ≡ before)

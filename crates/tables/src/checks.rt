@@ -1,0 +1,36 @@
+// Tests of the numbers that a call is given.
+ghost use Rattle.std.specs.Prelude.{◌≤ℤ◌, IfOk, unsigned_abs};
+ghost use Rattle.tables.specs.Refusals.{Tested};
+ghost use Rattle.tables.specs.Ranges.{in_range, is_id, is_flag, flag};
+ghost use Rattle.tables.specs.declared.refusal.Reason.TheVariants.{OutsideSpan, OutsideValues};
+
+use super::refusal::Reason;
+
+// The largest id; the smallest is 1.
+pub const LAST_ID: i64 = 65_535;
+
+// A number from `low` to `high`; else the reason.
+#[tactic(auto, unfolding(crate::specs::Ranges::in_range))]
+pub fn ranged(low: i64, high: i64, number: i64, reason: Reason) -> Result<i64, Reason>
+    ensures tested { Tested (in_range low high number) number reason result }
+    ensures within { IfOk result (λ z. (low ≤ℤ z) × (z ≤ℤ high)) }
+{
+    if number < low || high < number {
+        return Err(reason);
+    }
+    Ok(number)
+}
+
+// The number as an id.
+pub fn id_of(number: i64) -> Result<u16, Reason>
+    ensures { Tested (is_id number) (unsigned_abs number) OutsideSpan result }
+{
+    Ok(ranged(1, LAST_ID, number, Reason::OutsideSpan)? as u16)
+}
+
+// The number, 0 or 1, as a flag.
+pub fn flag_of(number: i64) -> Result<bool, Reason>
+    ensures { Tested (is_flag number) (flag number) OutsideValues result }
+{
+    Ok(ranged(0, 1, number, Reason::OutsideValues)? == 1)
+}

@@ -1,0 +1,10 @@
+// Tables of rows that are known by an id, and the refusals of calls on them.
+#![tactic(auto)]
+
+mod checks;
+mod refusal;
+mod table;
+
+pub use checks::{LAST_ID, flag_of, id_of, ranged};
+pub use refusal::{Part, Place, Reason, Refusal};
+pub use table::{HasId, Table};

@@ -1,0 +1,98 @@
+// A table of rows that are known by an id, in the order entered. All memory is reserved at opening.
+ghost use Rattle.std.specs.Prelude.{◌≡◌, ℕ, [], None, Some, IfOk, MatchOption, MatchResult, option_copied, not};
+ghost use Rattle.std.specs.Borrow.{sem};
+ghost use Rattle.tables.specs.Refusals.{Tested};
+ghost use Rattle.tables.specs.Tables.{found, place, entered, opened, TriedToAdd};
+ghost use Rattle.tables.specs.declared.refusal.Reason.TheVariants.{NotEntered, AlreadyEntered};
+
+use super::refusal::Reason;
+use std::alloc::{AllocError, Global};
+use std::marker::Model;
+
+// A row that is known by an id.
+pub trait HasId {
+    ghost key: { Self → ℕ };
+
+    fn id(&self) -> u16
+        ensures { result ≡ key self.now };
+}
+
+#[derive(Drop)]
+pub struct Table<T> {
+    rows: Vec<T>,
+    most: usize,
+}
+
+impl<T> Model for Table<T> {
+    ghost use Rattle.tables.specs.Rows.{Table as Rows, table_code};
+
+    ghost Value = { Rows T };
+
+    ghost coded = { table_code T.code };
+
+    ghost use Rattle.std.specs.Prelude.{◌≤◌, vec_capacity};
+
+    ghost view = { λ t. record { rows = t.rows.items; most = t.most } };
+
+    ghost invariant = { λ t. t.most ≤ vec_capacity t.rows };
+}
+
+impl<T> Table<T> {
+    // A table with room for `most` rows, and none yet.
+    pub fn open(alloc: Global, most: usize) -> Result<Table<T>, AllocError>
+        ensures { IfOk result (λ t. t ≡ opened most) }
+    {
+        let rows = Vec::with_capacity(alloc, most)?;
+        Ok(Table { rows, most })
+    }
+
+    // The rows, in the order entered.
+    pub fn rows(&self) -> &[T]
+        ensures { result.now ≡ self.now.rows }
+    {
+        self.rows.as_slice()
+    }
+
+    // Adds a row after the others, where there is room for it.
+    pub fn add(&mut self, row: T) -> Result<(), Reason>
+    where
+        T: Drop,
+        ensures { TriedToAdd row self.old self.new result }
+    {
+        if self.rows.len() >= self.most {
+            return Err(Reason::Full);
+        }
+        self.rows.push_reserved(row);
+        Ok(())
+    }
+}
+
+impl<T: HasId> Table<T> {
+    // The place of the row with this id, from 0.
+    pub fn find(&self, id: u16) -> Option<usize>
+        ensures { result ≡ place T.key id self.now.rows }
+    {
+        self.rows.iter().position(|row| row.id() == id)
+    }
+
+    // The row that is entered under an id.
+    #[tactic(auto, using(crate::proofs::Places::find_there, crate::proofs::Places::find_nowhere))]
+    pub fn row(&self, id: u16) -> Result<&T, Reason>
+        ensures { MatchResult result (λ x. found T.key id self.now.rows ≡ Some x.now) (λ r. (found T.key id self.now.rows ≡ None) × (r ≡ NotEntered)) }
+    {
+        match self.find(id) {
+            Some(place) => Ok(&self.rows[place]),
+            None => Err(Reason::NotEntered),
+        }
+    }
+
+    // That no row is entered under an id.
+    pub fn check_free(&self, id: u16) -> Result<(), Reason>
+        ensures { Tested (not (entered T.key id self.now.rows)) tt AlreadyEntered result }
+    {
+        match self.row(id) {
+            Ok(_) => Err(Reason::AlreadyEntered),
+            Err(_) => Ok(()),
+        }
+    }
+}
