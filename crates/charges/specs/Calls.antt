@@ -1,9 +1,11 @@
 -- The calls: why each is refused, what it makes of the records, and what its refusal shows. Assumes nothing.
 use Rattle.std.specs.Prelude.{◌≡◌, ℕ, ◌&&◌, List, [], ◌∷◌, Option, Some, None, is_some, Result, ℤ, pos, unsigned_abs}
-use Rattle.std.specs.Option.{option_map_or}
+use Rattle.std.specs.Option.{option_map, option_map_or}
 use Rattle.tables.specs.declared.refusal.Reason.{Reason}
 use Rattle.tables.specs.declared.refusal.Reason.TheVariants.{OutsideSpan, OutsideValues, NotEntered, AlreadyEntered, Misfit, Full}
 use Rattle.tables.specs.declared.refusal.Place.{Place}
+use Rattle.tables.specs.declared.refusal.Part.TheVariants.{Charges}
+use Rattle.tables.specs.declared.refusal.Refusal.{Refusal}
 use Rattle.tables.specs.Refusals.{Fit, ◌when◌, ◌unless◌, first_fit, answered}
 use Rattle.tables.specs.Ranges.{is_id, is_flag, flag}
 use Rattle.tables.specs.Tables.{has_room, with_row}
@@ -64,6 +66,11 @@ place_of (EnterResource id owner kind net exempt) = record { interval = pos 0; i
 -- the answer to a call: the first reason that fits, if one does
 abbrev pub answer_to : Call → Hour → Result (Unit {0}) Reason
 answer_to call h = answered (first_fit (reasons call h))
+
+-- the same, as a refusal with the part and the place
+abbrev pub refused_or_done : Call → Hour → Result (Unit {0}) Refusal
+refused_or_done call h =
+    answered (option_map (λ r. record { reason = r; part = Charges; place = place_of call }) (first_fit (reasons call h)))
 
 -- what a call leaves of the records: what it makes of them where no reason fits, and else just them
 abbrev pub left_by : Call → Hour → Hour

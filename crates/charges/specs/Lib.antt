@@ -4,3 +4,4 @@ pub mod Kinds
 pub mod Rows
 pub mod Hours
 pub mod Calls
+pub mod Sound

@@ -8,6 +8,7 @@ mod figures;
 mod hour;
 mod kinds;
 mod party;
+mod records;
 mod resource;
 
 pub use area::{Area, Election, QUARTERS, SufficiencyTest, Transfer};
@@ -17,4 +18,5 @@ pub use figures::{BidCap, Cents, Energy, Given, Price, PriceSteps, Volume};
 pub use hour::{MOST_AREAS, MOST_PARTIES, MOST_RESOURCES};
 pub use kinds::{AreaKind, ResourceKind};
 pub use party::{GivenCents, Party};
+pub use records::Records;
 pub use resource::{EnergyRecord, Resource};

@@ -1,1 +1,3 @@
+pub mod Fits
 pub mod Places
+pub mod Pushed

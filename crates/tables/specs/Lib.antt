@@ -2,3 +2,4 @@ pub mod Refusals
 pub mod Ranges
 pub mod Rows
 pub mod Tables
+pub mod Keyed

@@ -1,0 +1,164 @@
+-- Every call leaves sound records sound, and only adds ids. Assumes nothing.
+use Rattle.std.proofs.Common.{◌≡◌, refl, sym, ap, ◌∙◌, subst, ℕ, ◌+◌, ◌≤◌, ◌==◌, Bool, true, false, cond, not, ◌&&◌, List, [], ◌∷◌, ◌++◌, map, length, Option, Some, None, is_some, ℤ, unsigned_abs, arith, eqb-true}
+use Rattle.std.specs.List.{All, find, list_any, count_by}
+use Rattle.std.specs.Option.{option_map_or}
+use Rattle.std.proofs.lemmas.Grind.{common_steps}
+use Rattle.std.proofs.lemmas.List.{append-nil, map-append}
+use Rattle.std.proofs.lemmas.List.Elements.{All-push, All-weaker}
+use Rattle.std.proofs.lemmas.List.Sums.{sum_by_push}
+use Rattle.tables.specs.Refusals.{first_fit}
+use Rattle.tables.specs.Ranges.{is_id, flag}
+use Rattle.tables.specs.Keyed.{Keyed}
+use Rattle.tables.proofs.Fits.{none_fits, left_either, id_in_span}
+use Rattle.tables.proofs.Pushed.{none_passes, find_kept, count_none, none_of_any, keyed_push}
+use Rattle.charges.specs.declared.kinds.AreaKind.{AreaKind}
+use Rattle.charges.specs.declared.kinds.ResourceKind.{ResourceKind}
+use Rattle.charges.specs.declared.area.Area.{Area}
+use Rattle.charges.specs.declared.party.Party.{Party}
+use Rattle.charges.specs.declared.call.Call.{Call}
+use Rattle.charges.specs.declared.call.Call.TheVariants.{EnterArea, EnterParty, EnterResource}
+use Rattle.charges.specs.declared.hour.Hour.{Hour}
+use Rattle.charges.specs.Kinds.{is_ciso, names_ciso}
+use Rattle.charges.specs.Ranges.{most_areas, most_parties, most_resources}
+use Rattle.charges.specs.Rows.{new_area, new_party, new_resource}
+use Rattle.charges.specs.Hours.{area_id, party_id, resource_id, area_of, party_of, resource_of, area_is_ciso, area_is_weim, party_is_of_ciso, any_ciso, any_party_in}
+use Rattle.charges.specs.Calls.{reasons, made_by, left_by}
+use Rattle.charges.specs.Sound.{Sound, Step, Grows, Extends}
+
+-- what passes a test is there
+there : {T : Type 0} (f : T → Bool) (o : Option T) → option_map_or f o false ≡ true → is_some o ≡ true
+there f None e = e
+there f (Some x) e = refl
+
+count_push : {T : Type 0} (p : T → Bool) (xs : List T) (y : T) → count_by p (xs ++ y ∷ []) ≡ count_by p xs + cond (p y) 1 0
+count_push p xs y = sum_by_push (λ x. cond (p x) 1 0) xs y
+
+none_if_not_any : {T : Type 0} (p : T → Bool) (xs : List T) → list_any p xs ≡ false → count_by p xs ≡ 0
+none_if_not_any p xs e = count_none p xs (none_of_any p xs e)
+
+-- records with more areas, or more parties, have what those before had
+module _ (h g : Hour) where
+  ciso_stays : (id : ℕ) → (is_some (area_of h id) ≡ true → area_of g id ≡ area_of h id) → area_is_ciso h id ≡ true → area_is_ciso g id ≡ true
+  ciso_stays id kept e = ap (λ o. option_map_or (λ a. is_ciso a.kind) o false) (kept (there _ (area_of h id) e)) ∙ e
+
+  of_ciso_stays : (id : ℕ) → ((a : ℕ) → is_some (area_of h a) ≡ true → area_of g a ≡ area_of h a) → (is_some (party_of h id) ≡ true → party_of g id ≡ party_of h id) → party_is_of_ciso h id ≡ true → party_is_of_ciso g id ≡ true
+  of_ciso_stays id areas parties e =
+      ap (λ o. option_map_or (λ p. area_is_ciso g p.area) o false) (parties (there _ (party_of h id) e))
+      ∙ home (party_of h id) e
+    where
+      home : (o : Option Party) → option_map_or (λ p. area_is_ciso h p.area) o false ≡ true → option_map_or (λ p. area_is_ciso g p.area) o false ≡ true
+      home None e = e
+      home (Some p) e = ciso_stays p.area (areas p.area) e
+
+by_test : {P : Type 0} (b : Bool) → (b ≡ true → P) → (b ≡ false → P) → P
+by_test true f g = f refl
+by_test false f g = g refl
+
+module _ (h : Hour) (s : Sound h) where
+  -- no party is in an area that is not entered
+  homeless : (i : ℕ) → is_some (area_of h i) ≡ false → All (λ p. (p.area == i) ≡ false) h.parties.rows
+  homeless i n = All-weaker (λ p. is_some (area_of h p.area) ≡ true) (λ p. (p.area == i) ≡ false) (λ p e. by_test (p.area == i) (λ same. absurd (grind (arith, e, n, eqb-true p.area i same))) (λ other. other)) h.parties.rows s.homes
+
+  with_area : (id : ℤ) (kind : AreaKind) → first_fit (reasons (EnterArea id (Some kind)) h) ≡ None → Sound (made_by (EnterArea id (Some kind)) h)
+  with_area id kind e =
+      let call = EnterArea id (Some kind) in
+      let fits = none_fits (reasons call h) e in
+      let a = new_area (unsigned_abs id) kind in
+      let g = made_by call h in
+      let kept : (i : ℕ) → is_some (area_of h i) ≡ true → area_of g i ≡ area_of h i = λ i. find_kept (λ x. x.id == i) h.areas.rows a in
+      record {
+        areas = keyed_push area_id most_areas h.areas a (grind (arith, fits)) (id_in_span id (grind (arith, fits))) (grind (arith, fits)) s.areas;
+        parties = s.parties;
+        resources = s.resources;
+        one_ciso =
+            let no_second : (is_ciso kind && any_ciso h.areas.rows) ≡ false = grind (arith, fits) in
+            grind (arith, s.one_ciso, no_second, count_push (λ a. is_ciso a.kind) h.areas.rows a, none_if_not_any (λ a. is_ciso a.kind) h.areas.rows);
+        single = λ i w. by_test (is_some (area_of h i))
+            (λ y. s.single i (ap (λ o. option_map_or (λ a. not (is_ciso a.kind)) o false) (sym (kept i y)) ∙ w))
+            (λ n. grind (arith, count_none (λ p. p.area == i) h.parties.rows (homeless i n)));
+        homes = All-weaker _ _ (λ p e. ap is_some (kept p.area e) ∙ e) h.parties.rows s.homes;
+        owners = All-weaker _ _ (λ r e. of_ciso_stays h g r.owner kept (λ _. refl) e) h.resources.rows s.owners;
+      }
+
+  with_party : (id area : ℤ) → first_fit (reasons (EnterParty id area) h) ≡ None → Sound (made_by (EnterParty id area) h)
+  with_party id area e =
+      let call = EnterParty id area in
+      let fits = none_fits (reasons call h) e in
+      let p = new_party (unsigned_abs id) (unsigned_abs area) in
+      let g = made_by call h in
+      record {
+        areas = s.areas;
+        parties = keyed_push party_id most_parties h.parties p (grind (arith, fits)) (id_in_span id (grind (arith, fits))) (grind (arith, fits)) s.parties;
+        resources = s.resources;
+        one_ciso = s.one_ciso;
+        single = λ i w.
+            let alone : (area_is_weim h (unsigned_abs area) && any_party_in (unsigned_abs area) h.parties.rows) ≡ false = grind (arith, fits) in
+            by_test (unsigned_abs area == i)
+            (λ same.
+            let free : any_party_in i h.parties.rows ≡ false =
+            let here : (area_is_weim h i && any_party_in i h.parties.rows) ≡ false = subst (λ j. (area_is_weim h j && any_party_in j h.parties.rows) ≡ false) (eqb-true (unsigned_abs area) i same) alone in grind (arith, w, here) in
+            grind (arith, same, none_if_not_any (λ p. p.area == i) h.parties.rows free, count_push (λ p. p.area == i) h.parties.rows p))
+            (λ other. grind (arith, other, s.single i w, count_push (λ p. p.area == i) h.parties.rows p));
+        homes = All-push (λ p. is_some (area_of h p.area) ≡ true) h.parties.rows p s.homes (grind (arith, fits));
+        owners = All-weaker _ _ (λ r e. of_ciso_stays h g r.owner (λ _ _. refl) (find_kept (λ x. x.id == r.owner) h.parties.rows p) e) h.resources.rows s.owners;
+      }
+
+  with_resource : (id owner : ℤ) (kind : ResourceKind) (net exempt : ℤ) → first_fit (reasons (EnterResource id owner (Some kind) net exempt) h) ≡ None → Sound (made_by (EnterResource id owner (Some kind) net exempt) h)
+  with_resource id owner kind net exempt e =
+      let call = EnterResource id owner (Some kind) net exempt in
+      let fits = none_fits (reasons call h) e in
+      let r = new_resource (unsigned_abs id) (unsigned_abs owner) kind (flag net) (flag exempt) in
+      record {
+        areas = s.areas;
+        parties = s.parties;
+        resources = keyed_push resource_id most_resources h.resources r (grind (arith, fits)) (id_in_span id (grind (arith, fits))) (grind (arith, fits)) s.resources;
+        one_ciso = s.one_ciso;
+        single = s.single;
+        homes = s.homes;
+        owners = All-push (λ r. party_is_of_ciso h r.owner ≡ true) h.resources.rows r s.owners (grind (arith, fits));
+      }
+
+pub sound_made : (call : Call) (h : Hour) → first_fit (reasons call h) ≡ None → Sound h → Sound (made_by call h)
+sound_made (EnterArea id None) h e s = s
+sound_made (EnterArea id (Some kind)) h e s = with_area h s id kind e
+sound_made (EnterParty id area) h e s = with_party h s id area e
+sound_made (EnterResource id owner None net exempt) h e s = s
+sound_made (EnterResource id owner (Some kind) net exempt) h e s = with_resource h s id owner kind net exempt e
+
+pub sound_left : (call : Call) (h : Hour) → Sound h → Sound (left_by call h)
+sound_left call h s = left_either Sound (first_fit (reasons call h)) h (made_by call h) (λ e. sound_made call h e s) s
+
+same_ids : {T : Type 0} (key : T → ℕ) (xs : List T) → Extends key xs xs
+same_ids key xs = ([], sym (append-nil (map key xs)))
+
+more_ids : {T : Type 0} (key : T → ℕ) (xs : List T) (y : T) → Extends key xs (xs ++ y ∷ [])
+more_ids key xs y = (key y ∷ [], map-append key xs (y ∷ []))
+
+none_new : (h : Hour) → Grows h h
+none_new h = record {
+  areas = same_ids area_id h.areas.rows;
+  parties = same_ids party_id h.parties.rows;
+  resources = same_ids resource_id h.resources.rows;
+}
+
+pub grows_made : (call : Call) (h : Hour) → Grows h (made_by call h)
+grows_made (EnterArea id None) h = none_new h
+grows_made (EnterArea id (Some kind)) h = record {
+  areas = more_ids area_id h.areas.rows (new_area (unsigned_abs id) kind);
+  parties = same_ids party_id h.parties.rows;
+  resources = same_ids resource_id h.resources.rows;
+}
+grows_made (EnterParty id area) h = record {
+  areas = same_ids area_id h.areas.rows;
+  parties = more_ids party_id h.parties.rows (new_party (unsigned_abs id) (unsigned_abs area));
+  resources = same_ids resource_id h.resources.rows;
+}
+grows_made (EnterResource id owner None net exempt) h = none_new h
+grows_made (EnterResource id owner (Some kind) net exempt) h = record {
+  areas = same_ids area_id h.areas.rows;
+  parties = same_ids party_id h.parties.rows;
+  resources = more_ids resource_id h.resources.rows (new_resource (unsigned_abs id) (unsigned_abs owner) kind (flag net) (flag exempt));
+}
+
+pub grows_left : (call : Call) (h : Hour) → Grows h (left_by call h)
+grows_left call h = left_either (Grows h) (first_fit (reasons call h)) h (made_by call h) (λ e. grows_made call h) (none_new h)

@@ -1,0 +1,128 @@
+// The records of an hour. Of every `Records` what `Sound` says is true.
+ghost use Rattle.std.specs.Prelude.{◌≡◌, IfOk};
+ghost use Rattle.charges.specs.Kinds.{area_kind, resource_kind};
+ghost use Rattle.charges.specs.Hours.{opened};
+ghost use Rattle.charges.specs.Calls.{refused_or_done, left_by};
+ghost use Rattle.charges.specs.Sound.{Sound, Step, Grows};
+ghost use Rattle.charges.specs.declared.call.Call.TheVariants.{EnterArea, EnterParty, EnterResource};
+
+use super::area::Area;
+use super::call::Call;
+use super::hour::Hour;
+use super::kinds::{AreaKind, ResourceKind};
+use super::party::Party;
+use super::resource::Resource;
+use std::alloc::{AllocError, Global};
+use std::marker::Model;
+use tables::{Part, Refusal};
+
+#[derive(Drop)]
+pub struct Records {
+    hour: Hour,
+}
+
+impl Model for Records {
+    ghost use Rattle.charges.specs.declared.hour.Hour.{Hour as Tables};
+
+    ghost Value = { Tables };
+
+    ghost use Rattle.charges.specs.Sound.{Sound};
+
+    ghost view = { λ r. r.hour };
+
+    ghost invariant = { λ r. Sound r.hour };
+}
+
+impl Records {
+    // Nothing entered yet. The tables have so many rows, and no more than the full numbers; no later call allocates.
+    pub fn open(
+        alloc: Global,
+        areas: usize,
+        parties: usize,
+        resources: usize,
+    ) -> Result<Records, AllocError>
+        ensures { IfOk result (λ records. records ≡ opened areas parties resources) }
+    {
+        let hour = Hour::open(alloc, areas, parties, resources)?;
+        Ok(Records { hour })
+    }
+
+    // The one way in: every call, as a value. Refused, nothing changes.
+    pub fn take(&mut self, call: Call) -> Result<(), Refusal>
+        ensures answer { result ≡ refused_or_done call self.old }
+        ensures records { self.new ≡ left_by call self.old }
+        ensures sound { Sound self.new }
+        ensures step { IfOk result (λ _. Step self.old self.new) }
+        ensures grows { Grows self.old self.new }
+    {
+        match self.hour.take(call) {
+            Ok(()) => Ok(()),
+            Err(reason) => Err(Refusal {
+                reason,
+                part: Part::Charges,
+                place: call.place(),
+            }),
+        }
+    }
+
+    // Enters an area of kind `C` or `W`.
+    pub fn enter_area(&mut self, id: i64, kind: &[u8]) -> Result<(), Refusal>
+        ensures answer { result ≡ refused_or_done (EnterArea id (area_kind kind.now)) self.old }
+        ensures records { self.new ≡ left_by (EnterArea id (area_kind kind.now)) self.old }
+    {
+        self.take(Call::EnterArea {
+            id,
+            kind: AreaKind::named(kind),
+        })
+    }
+
+    // Enters a party of an area.
+    pub fn enter_party(&mut self, id: i64, area: i64) -> Result<(), Refusal>
+        ensures answer { result ≡ refused_or_done (EnterParty id area) self.old }
+        ensures records { self.new ≡ left_by (EnterParty id area) self.old }
+    {
+        self.take(Call::EnterParty { id, area })
+    }
+
+    // Enters a resource of kind `P`, `S` or `D`.
+    pub fn enter_resource(
+        &mut self,
+        id: i64,
+        owner: i64,
+        kind: &[u8],
+        net: i64,
+        exempt: i64,
+    ) -> Result<(), Refusal>
+        ensures answer { result ≡ refused_or_done (EnterResource id owner (resource_kind kind.now) net exempt) self.old }
+        ensures records { self.new ≡ left_by (EnterResource id owner (resource_kind kind.now) net exempt) self.old }
+    {
+        self.take(Call::EnterResource {
+            id,
+            owner,
+            kind: ResourceKind::named(kind),
+            net,
+            exempt,
+        })
+    }
+
+    // The areas, in the order entered.
+    pub fn areas(&self) -> &[Area]
+        ensures { result.now ≡ self.now.areas.rows }
+    {
+        self.hour.areas.rows()
+    }
+
+    // The parties, in the order entered.
+    pub fn parties(&self) -> &[Party]
+        ensures { result.now ≡ self.now.parties.rows }
+    {
+        self.hour.parties.rows()
+    }
+
+    // The resources, in the order entered.
+    pub fn resources(&self) -> &[Resource]
+        ensures { result.now ≡ self.now.resources.rows }
+    {
+        self.hour.resources.rows()
+    }
+}
