@@ -1,29 +1,26 @@
 -- Every call leaves sound records sound, and only adds ids. Assumes nothing.
-use Rattle.std.proofs.Common.{◌≡◌, refl, sym, ap, ◌∙◌, subst, ℕ, ◌+◌, ◌≤◌, ◌==◌, Bool, true, false, cond, not, ◌&&◌, List, [], ◌∷◌, ◌++◌, map, length, Option, Some, None, is_some, ℤ, unsigned_abs, arith, eqb-true}
-use Rattle.std.specs.List.{All, find, list_any, count_by}
+use Rattle.std.proofs.Common.{◌≡◌, refl, sym, ap, ◌∙◌, subst, ℕ, ◌+◌, ◌==◌, Bool, true, false, cond, not, ◌&&◌, List, [], ◌∷◌, ◌++◌, map, Option, Some, None, is_some, ℤ, unsigned_abs, arith, eqb-true}
+use Rattle.std.specs.List.{All, list_any, count_by}
 use Rattle.std.specs.Option.{option_map_or}
-use Rattle.std.proofs.lemmas.Grind.{common_steps}
 use Rattle.std.proofs.lemmas.List.{append-nil, map-append}
 use Rattle.std.proofs.lemmas.List.Elements.{All-push, All-weaker}
 use Rattle.std.proofs.lemmas.List.Sums.{sum_by_push}
 use Rattle.tables.specs.Refusals.{first_fit}
-use Rattle.tables.specs.Ranges.{is_id, flag}
-use Rattle.tables.specs.Keyed.{Keyed}
+use Rattle.tables.specs.Ranges.{flag}
 use Rattle.tables.proofs.Fits.{none_fits, left_either, id_in_span}
-use Rattle.tables.proofs.Pushed.{none_passes, find_kept, count_none, none_of_any, keyed_push}
+use Rattle.tables.proofs.Pushed.{find_kept, count_none, none_of_any, keyed_push}
 use Rattle.charges.specs.declared.kinds.AreaKind.{AreaKind}
 use Rattle.charges.specs.declared.kinds.ResourceKind.{ResourceKind}
-use Rattle.charges.specs.declared.area.Area.{Area}
 use Rattle.charges.specs.declared.party.Party.{Party}
 use Rattle.charges.specs.declared.call.Call.{Call}
 use Rattle.charges.specs.declared.call.Call.TheVariants.{EnterArea, EnterParty, EnterResource}
 use Rattle.charges.specs.declared.hour.Hour.{Hour}
-use Rattle.charges.specs.Kinds.{is_ciso, names_ciso}
+use Rattle.charges.specs.Kinds.{is_ciso}
 use Rattle.charges.specs.Ranges.{most_areas, most_parties, most_resources}
 use Rattle.charges.specs.Rows.{new_area, new_party, new_resource}
-use Rattle.charges.specs.Hours.{area_id, party_id, resource_id, area_of, party_of, resource_of, area_is_ciso, area_is_weim, party_is_of_ciso, any_ciso, any_party_in}
+use Rattle.charges.specs.Hours.{area_id, party_id, resource_id, area_of, party_of, area_is_ciso, area_is_weim, party_is_of_ciso, any_ciso, any_party_in}
 use Rattle.charges.specs.Calls.{reasons, made_by, left_by}
-use Rattle.charges.specs.Sound.{Sound, Step, Grows, Extends}
+use Rattle.charges.specs.Sound.{Sound, Grows, Extends, StepsKeepSound}
 
 -- what passes a test is there
 there : {T : Type 0} (f : T → Bool) (o : Option T) → option_map_or f o false ≡ true → is_some o ≡ true
@@ -162,3 +159,7 @@ grows_made (EnterResource id owner (Some kind) net exempt) h = record {
 
 pub grows_left : (call : Call) (h : Hour) → Grows h (left_by call h)
 grows_left call h = left_either (Grows h) (first_fit (reasons call h)) h (made_by call h) (λ e. grows_made call h) (none_new h)
+
+pub steps_keep_sound : StepsKeepSound
+steps_keep_sound before after step s =
+    (subst Sound (sym step.made) (sound_made step.call before step.accepted s), subst (Grows before) (sym step.made) (grows_made step.call before))

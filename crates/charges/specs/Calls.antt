@@ -1,5 +1,5 @@
 -- The calls: why each is refused, what it makes of the records, and what its refusal shows. Assumes nothing.
-use Rattle.std.specs.Prelude.{◌≡◌, ℕ, ◌&&◌, List, [], ◌∷◌, Option, Some, None, is_some, Result, ℤ, pos, unsigned_abs}
+use Rattle.std.specs.Prelude.{◌&&◌, List, [], ◌∷◌, Some, None, is_some, Result, pos, unsigned_abs}
 use Rattle.std.specs.Option.{option_map, option_map_or}
 use Rattle.tables.specs.declared.refusal.Reason.{Reason}
 use Rattle.tables.specs.declared.refusal.Reason.TheVariants.{OutsideSpan, OutsideValues, NotEntered, AlreadyEntered, Misfit, Full}
@@ -12,7 +12,6 @@ use Rattle.tables.specs.Tables.{has_room, with_row}
 use Rattle.charges.specs.declared.call.Call.{Call}
 use Rattle.charges.specs.declared.call.Call.TheVariants.{EnterArea, EnterParty, EnterResource}
 use Rattle.charges.specs.declared.hour.Hour.{Hour}
-use Rattle.charges.specs.declared.kinds.AreaKind.{AreaKind}
 use Rattle.charges.specs.Kinds.{names_ciso}
 use Rattle.charges.specs.Rows.{new_area, new_party, new_resource}
 use Rattle.charges.specs.Hours.{area_of, party_of, resource_of, area_is_weim, party_is_of_ciso, any_ciso, any_party_in}

@@ -5,7 +5,7 @@ use Rattle.charges.specs.declared.figures.Price.{Price}
 use Rattle.charges.specs.declared.figures.BidCap.{BidCap}
 use Rattle.charges.specs.declared.figures.Energy.{Energy}
 use Rattle.charges.specs.declared.figures.Volume.{Volume}
-use Rattle.charges.specs.declared.figures.Given.{Given}
+use Rattle.charges.specs.declared.figures.GivenAmount.{GivenAmount}
 
 -- 0 is in every range
 abbrev pub zero_price : Price
@@ -20,5 +20,5 @@ zero_energy = record { units = record { 0 = pos 0 }; within = lit≤ tt }
 abbrev pub zero_volume : Volume
 zero_volume = record { units = record { 0 = pos 0 }; from_0 = record { le = tt }; within = lit≤ tt }
 
-abbrev pub zero_given : Given
+abbrev pub zero_given : GivenAmount
 zero_given = record { cents = record { 0 = pos 0 }; within = lit≤ tt }

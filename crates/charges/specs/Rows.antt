@@ -1,6 +1,5 @@
 -- The rows of the tables as they are entered, before anything is posted. Assumes nothing.
 use Rattle.std.specs.Prelude.{ℕ, Bool, false, None, replicate, pos}
-use Rattle.std.proofs.Common.{lit≤}
 use Rattle.deemed.specs.Ranges.{hour_length}
 use Rattle.deemed.specs.Tags.{no_tag}
 use Rattle.charges.specs.declared.kinds.AreaKind.{AreaKind}
@@ -9,7 +8,7 @@ use Rattle.charges.specs.declared.area.Election.{Election}
 use Rattle.charges.specs.declared.area.SufficiencyTest.{SufficiencyTest}
 use Rattle.charges.specs.declared.area.Transfer.{Transfer}
 use Rattle.charges.specs.declared.area.Area.{Area}
-use Rattle.charges.specs.declared.party.GivenCents.{GivenCents}
+use Rattle.charges.specs.declared.party.GivenAmounts.{GivenAmounts}
 use Rattle.charges.specs.declared.party.Party.{Party}
 use Rattle.charges.specs.declared.resource.EnergyRecord.{EnergyRecord}
 use Rattle.charges.specs.declared.resource.Resource.{Resource}
@@ -35,7 +34,7 @@ new_area id kind = record {
   transfers = replicate hour_length no_transfer;
 }
 
-abbrev pub nothing_given : GivenCents
+abbrev pub nothing_given : GivenAmounts
 nothing_given = record {
   pass_through = replicate hour_length zero_given;
   cc_6474 = replicate hour_length zero_given;

@@ -38,3 +38,7 @@ pub record Grows (before after : Hour) : Type 0 where
   pub areas : Extends area_id before.areas.rows after.areas.rows
   pub parties : Extends party_id before.parties.rows after.parties.rows
   pub resources : Extends resource_id before.resources.rows after.resources.rows
+
+-- whatever accepted calls follow: sound records stay so, and only grow
+abbrev pub StepsKeepSound : Type 0
+StepsKeepSound = (before after : Hour) → Step before after → Sound before → Sound after × Grows before after

@@ -1,4 +1,4 @@
-// The figures that records hold: each a quantity inside its range.
+// Quantities, and the figures that records hold: each a quantity inside its range.
 ghost use Rattle.std.specs.Prelude.{◌≤◌, ◌≤ℤ◌, pos, unsigned_abs, refl};
 ghost use Rattle.charges.specs.Ranges.{most_price, most_energy, most_given};
 
@@ -33,14 +33,14 @@ impl Quantity for Cents {
 // A price of energy, of either sign.
 #[derive(Clone, Copy, PartialEq, Eq, Debug)]
 pub struct Price {
-    steps: PriceSteps,
+    pub steps: PriceSteps,
     ghost within: { unsigned_abs steps.0 ≤ most_price },
 }
 
 // The most that a transfer's energy is bid at.
 #[derive(Clone, Copy, PartialEq, Eq, Debug)]
 pub struct BidCap {
-    steps: PriceSteps,
+    pub steps: PriceSteps,
     ghost from_0: { pos 0 ≤ℤ steps.0 },
     ghost within: { unsigned_abs steps.0 ≤ most_price },
 }
@@ -48,22 +48,22 @@ pub struct BidCap {
 // Energy of an interval, of either sign.
 #[derive(Clone, Copy, PartialEq, Eq, Debug)]
 pub struct Energy {
-    units: Units,
+    pub units: Units,
     ghost within: { unsigned_abs units.0 ≤ most_energy },
 }
 
 // Energy of an interval that has no sign. A kW over an interval is a unit.
 #[derive(Clone, Copy, PartialEq, Eq, Debug)]
 pub struct Volume {
-    units: Units,
+    pub units: Units,
     ghost from_0: { pos 0 ≤ℤ units.0 },
     ghost within: { unsigned_abs units.0 ≤ most_energy },
 }
 
 // Money that is given to the book, of either sign.
 #[derive(Clone, Copy, PartialEq, Eq, Debug)]
-pub struct Given {
-    cents: Cents,
+pub struct GivenAmount {
+    pub cents: Cents,
     ghost within: { unsigned_abs cents.0 ≤ most_given },
 }
 
@@ -115,13 +115,13 @@ impl Volume {
     }
 }
 
-impl Given {
+impl GivenAmount {
     ghost use Rattle.std.specs.Prelude.{◌≡◌};
     ghost use Rattle.charges.specs.Figures.{zero_given};
 
-    pub fn zero() -> Given
+    pub fn zero() -> GivenAmount
         ensures { result ≡ zero_given }
     {
-        Given { cents: Cents(0) }
+        GivenAmount { cents: Cents(0) }
     }
 }

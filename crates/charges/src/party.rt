@@ -2,17 +2,17 @@
 ghost use Rattle.std.specs.Prelude.{◌≡◌};
 ghost use Rattle.charges.specs.Rows.{nothing_given, new_party};
 
-use super::figures::{Given, Volume};
+use super::figures::{GivenAmount, Volume};
 use deemed::INTERVALS;
 use tables::HasId;
 
 // What is given for a party in each interval, under each of three codes.
 #[derive(Clone, Copy, PartialEq, Eq, Debug)]
-pub struct GivenCents {
+pub struct GivenAmounts {
     // under CC 6470
-    pub pass_through: [Given; INTERVALS],
-    pub cc_6474: [Given; INTERVALS],
-    pub cc_6475: [Given; INTERVALS],
+    pub pass_through: [GivenAmount; INTERVALS],
+    pub cc_6474: [GivenAmount; INTERVALS],
+    pub cc_6475: [GivenAmount; INTERVALS],
 }
 
 #[derive(Drop)]
@@ -20,17 +20,17 @@ pub struct Party {
     pub id: u16,
     pub area: u16,
     pub demand: [Volume; INTERVALS],
-    pub given: GivenCents,
+    pub given: GivenAmounts,
 }
 
-impl GivenCents {
-    pub fn none() -> GivenCents
+impl GivenAmounts {
+    pub fn none() -> GivenAmounts
         ensures { result ≡ nothing_given }
     {
-        GivenCents {
-            pass_through: [Given::zero(); INTERVALS],
-            cc_6474: [Given::zero(); INTERVALS],
-            cc_6475: [Given::zero(); INTERVALS],
+        GivenAmounts {
+            pass_through: [GivenAmount::zero(); INTERVALS],
+            cc_6474: [GivenAmount::zero(); INTERVALS],
+            cc_6475: [GivenAmount::zero(); INTERVALS],
         }
     }
 }
@@ -44,7 +44,7 @@ impl Party {
             id,
             area,
             demand: [Volume::zero(); INTERVALS],
-            given: GivenCents::none(),
+            given: GivenAmounts::none(),
         }
     }
 }

@@ -3,7 +3,7 @@ ghost use Rattle.std.specs.Prelude.{◌≡◌, IfOk};
 ghost use Rattle.charges.specs.Kinds.{area_kind, resource_kind};
 ghost use Rattle.charges.specs.Hours.{opened};
 ghost use Rattle.charges.specs.Calls.{refused_or_done, left_by};
-ghost use Rattle.charges.specs.Sound.{Sound, Step, Grows};
+ghost use Rattle.charges.specs.Sound.{Sound, Step, Grows, StepsKeepSound};
 ghost use Rattle.charges.specs.declared.call.Call.TheVariants.{EnterArea, EnterParty, EnterResource};
 
 use super::area::Area;
@@ -41,7 +41,9 @@ impl Records {
         parties: usize,
         resources: usize,
     ) -> Result<Records, AllocError>
-        ensures { IfOk result (λ records. records ≡ opened areas parties resources) }
+        ensures empty { IfOk result (λ records. records ≡ opened areas parties resources) }
+        ensures sound { IfOk result Sound }
+        ensures lasting { IfOk result (λ _. StepsKeepSound) }
     {
         let hour = Hour::open(alloc, areas, parties, resources)?;
         Ok(Records { hour })

@@ -1,5 +1,5 @@
 -- What follows where no reason fits, and of a number that is an id. Assumes nothing.
-use Rattle.std.proofs.Common.{◌≡◌, refl, ◌≤◌, Bool, true, false, List, [], ◌∷◌, Option, Some, None, ℤ, pos, negsuc, unsigned_abs, arith}
+use Rattle.std.proofs.Common.{◌≡◌, refl, true, false, List, [], ◌∷◌, Option, Some, None, ℤ, pos, negsuc, unsigned_abs, arith}
 use Rattle.std.specs.Option.{option_map_or}
 use Rattle.tables.specs.Refusals.{Fit, first_fit}
 use Rattle.tables.specs.Ranges.{in_range, is_id}

@@ -1,13 +1,13 @@
 -- What a row that is added leaves of the others. Assumes nothing.
-use Rattle.std.proofs.Common.{◌≡◌, ◌≢◌, refl, sym, ap, ◌∙◌, subst, ℕ, ◌+◌, ◌≤◌, ◌<◌, nat_lt, Bool, true, false, cond, not, List, [], ◌∷◌, ◌++◌, length, get_or, Option, Some, None, is_some, ◌==◌, eq-eqb, arith, rules, ltb-true, inl, inr, ◌⊎◌}
-use Rattle.std.specs.List.{All, AllPairs, find, list_any, count_by}
+use Rattle.std.proofs.Common.{◌≡◌, ◌≢◌, refl, ◌∙◌, ℕ, ◌≤◌, Bool, true, false, cond, List, [], ◌∷◌, ◌++◌, is_some, ◌==◌, arith}
+use Rattle.std.specs.List.{All, find, list_any, count_by}
 use Rattle.std.proofs.lemmas.List.Elements.{All-nil, All-cons, All-head, All-push, All-tail}
 use Rattle.std.proofs.lemmas.List.Folds.{find-append}
 use Rattle.std.proofs.lemmas.List.Sums.{sum_by-cons}
 use Rattle.std.proofs.lemmas.List.Quantifiers.{all_pairs_push}
 use Rattle.std.proofs.lemmas.Grind.{common_steps}
 use Rattle.tables.specs.Rows.{Table}
-use Rattle.tables.specs.Tables.{found, entered, has_room, with_row, opened}
+use Rattle.tables.specs.Tables.{entered, has_room, with_row, opened}
 use Rattle.tables.specs.Keyed.{Keyed, IsId}
 
 module _ {T : Type 0} (p : T → Bool) where
@@ -45,5 +45,5 @@ module _ {T : Type 0} (key : T → ℕ) (full : ℕ) where
     bound = h.bound;
     ids = All-push (λ x. IsId (key x)) t.rows x h.ids id;
     distinct = all_pairs_push (λ x y. key x ≢ key y) t.rows x h.distinct
-        (λ k d l e. grind (arith, none_passes (λ y. key y == key x) t.rows new k d l))
+        (λ k d l e. grind (arith, none_passes (λ y. key y == key x) t.rows new k d l));
   }

@@ -1,5 +1,5 @@
 -- A table whose rows are known by ids of their own. Assumes nothing.
-use Rattle.std.specs.Prelude.{◌≡◌, ◌≢◌, ℕ, ◌≤◌, length}
+use Rattle.std.specs.Prelude.{◌≢◌, ℕ, ◌≤◌, length}
 use Rattle.std.specs.List.{All, AllPairs}
 use Rattle.tables.specs.Ranges.{last_id}
 use Rattle.tables.specs.Rows.{Table}

@@ -1,5 +1,8 @@
 -- The refusals, and which of them a call meets. Assumes nothing.
-use Rattle.std.specs.Prelude.{◌≡◌, ℕ, Bool, true, false, not, cond, List, [], ◌∷◌, Option, Some, None, Result, Ok, Err, codes}
+use Rattle.std.specs.Prelude.{◌≡◌, ℕ, Bool, true, false, not, cond, List, [], ◌∷◌, ◌++◌, Option, Some, None, Result, Ok, Err, codes}
+use Rattle.std.specs.Fmt.{decimal, signed_decimal}
+use Rattle.tables.specs.declared.refusal.Place.{Place}
+use Rattle.tables.specs.declared.refusal.Refusal.{Refusal}
 use Rattle.tables.specs.declared.refusal.Reason.{Reason}
 use Rattle.tables.specs.declared.refusal.Reason.TheVariants.{Malformed, OutsideSpan, OutsideValues, NotEntered, AlreadyEntered, Misfit, Full, NoTieWeight, NoDemand, NoSurchargeWeight, LinesFull}
 use Rattle.tables.specs.declared.refusal.Part.{Part}
@@ -40,6 +43,14 @@ part_number Deemed = 2
 part_number Charges = 3
 part_number Statement = 4
 part_number Reader = 5
+
+-- a place and a refusal as they are printed
+abbrev pub place_text : Place → List ℕ
+place_text p = codes "interval " ++ (signed_decimal p.interval ++ (codes " id " ++ signed_decimal p.id))
+
+abbrev pub refusal_text : Refusal → List ℕ
+refusal_text r =
+    codes "refused " ++ (decimal (reason_number r.reason) ++ (codes " part " ++ (decimal (part_number r.part) ++ (codes " " ++ place_text r.place))))
 
 -- a reason, and whether it fits
 pub record Fit (R : Type 0) : Type 0 where

@@ -2,6 +2,7 @@
 ghost use Rattle.std.specs.Prelude.{◌≡◌};
 ghost use Rattle.tables.specs.Refusals.{reason_number, part_number, reason_message};
 
+use std::error::Error;
 use std::fmt;
 
 // The reasons, with their numbers.
@@ -100,3 +101,31 @@ impl fmt::Display for Reason {
         write!(f, "{text}")
     }
 }
+
+impl fmt::Display for Place {
+    ghost use Rattle.std.specs.Prelude.{Some};
+    ghost use Rattle.tables.specs.Refusals.{place_text};
+
+    ghost output = { λ p. Some (place_text p) };
+
+    fn fmt<W: fmt::Write>(&self, f: &mut fmt::Formatter<W>) -> fmt::Result {
+        let Place { interval, id } = *self;
+        write!(f, "interval {interval} id {id}")
+    }
+}
+
+impl fmt::Display for Refusal {
+    ghost use Rattle.std.specs.Prelude.{Some};
+    ghost use Rattle.tables.specs.Refusals.{refusal_text};
+
+    ghost output = { λ r. Some (refusal_text r) };
+
+    fn fmt<W: fmt::Write>(&self, f: &mut fmt::Formatter<W>) -> fmt::Result {
+        let number = self.reason.number();
+        let part = self.part.number();
+        let place = self.place;
+        write!(f, "refused {number} part {part} {place}")
+    }
+}
+
+impl Error for Refusal {}
