@@ -1,2 +1,3 @@
 pub mod Parties
 pub mod Tags
+pub mod Entering

@@ -1,6 +1,7 @@
-// Shares some pools of money, and then the energy of some ties' hours, under both rules.
+// Shares some pools of money, and then the energy of some ties' hours, under both rules; then enters the records of an hour.
 #![tactic(auto)]
 
+mod entering;
 mod parties;
 mod pools;
 mod table;
@@ -8,6 +9,8 @@ mod tags;
 mod ties;
 
 use anyhow::Context;
+use charges::Records;
+use entering::{AREAS, ENTRIES, ENTRIES_HEADER, PARTIES, RESOURCES, print_entered, print_tables};
 use pools::{POOLS, SamplePool, enter_parties};
 use sharing::{LargestRemainder, Running};
 use std::io::{BufWriter, Write};
@@ -33,6 +36,12 @@ fn run(rt: &HostRuntime) -> anyhow::Result<()> {
         let tags = enter_tags(tie).context("a tag outside its range")?;
         print_tie(&mut out, tags)?;
     }
+    let mut records = Records::open(rt.alloc(), AREAS, PARTIES, RESOURCES)?;
+    writeln!(out, "\n{ENTRIES_HEADER}")?;
+    for entry in ENTRIES {
+        print_entered(&mut out, &mut records, entry)?;
+    }
+    print_tables(&mut out, &records)?;
     out.flush()?;
     Ok(())
 }

@@ -1,27 +1,8 @@
-// Money, and the parties that take it.
+// The parties that take money.
 ghost use Rattle.std.specs.Prelude.{refl};
 
-use sharing::{Quantity, Recipient};
-
-#[derive(Clone, Copy, PartialEq, Eq, Debug)]
-pub struct Cents(pub i64);
-
-// Money and energy have types of their own: as one generic type each value would carry a marker of its unit.
-impl Quantity for Cents {
-    ghost amount = { λ c. c.0 };
-
-    ghost of = { λ z. record { 0 = z } };
-
-    ghost back = { λ z. refl };
-
-    fn new(count: i64) -> Cents {
-        Cents(count)
-    }
-
-    fn count(self) -> i64 {
-        self.0
-    }
-}
+use charges::Cents;
+use sharing::Recipient;
 
 // A party's demand, by which pools are shared, and what is due to it.
 #[derive(Clone, Copy)]

@@ -2,7 +2,8 @@
 ghost use Rattle.std.specs.Prelude.{◌≡◌, map, IfOk};
 ghost use Rattle.hourbook.specs.Parties.{entered};
 
-use super::parties::{Cents, Party};
+use super::parties::Party;
+use charges::Cents;
 use std::alloc::{AllocError, Global};
 
 // A pool, and the demands by which it is shared.
