@@ -1,12 +1,12 @@
 -- Every call leaves sound records sound, and only adds ids. Assumes nothing.
-use Rattle.std.proofs.Common.{◌≡◌, refl, sym, ap, ◌∙◌, subst, ℕ, ◌+◌, ◌==◌, Bool, true, false, cond, not, ◌&&◌, List, [], ◌∷◌, ◌++◌, map, Option, Some, None, is_some, ℤ, unsigned_abs, arith, eqb-true}
+use Rattle.std.proofs.Common.{◌≡◌, refl, sym, ap, ◌∙◌, subst, ℕ, ◌+◌, ◌==◌, Bool, true, false, cond, not, ◌&&◌, List, [], ◌∷◌, ◌++◌, map, Option, Some, None, is_some, ℤ, arith, eqb-true}
 use Rattle.std.specs.List.{All, list_any, count_by}
 use Rattle.std.specs.Option.{option_map_or}
 use Rattle.std.proofs.lemmas.List.{append-nil, map-append}
 use Rattle.std.proofs.lemmas.List.Elements.{All-push, All-weaker}
 use Rattle.std.proofs.lemmas.List.Sums.{sum_by_push}
 use Rattle.tables.specs.Refusals.{first_fit}
-use Rattle.tables.specs.Ranges.{flag}
+use Rattle.tables.specs.Ranges.{as_id, flag}
 use Rattle.tables.proofs.Fits.{none_fits, left_either, id_in_span}
 use Rattle.tables.proofs.Pushed.{find_kept, count_none, none_of_any, keyed_push}
 use Rattle.charges.specs.declared.kinds.AreaKind.{AreaKind}
@@ -60,7 +60,7 @@ module _ (h : Hour) (s : Sound h) where
   with_area id kind e =
       let call = EnterArea id (Some kind) in
       let fits = none_fits (reasons call h) e in
-      let a = new_area (unsigned_abs id) kind in
+      let a = new_area (as_id id) kind in
       let g = made_by call h in
       let kept : (i : ℕ) → is_some (area_of h i) ≡ true → area_of g i ≡ area_of h i = λ i. find_kept (λ x. x.id == i) h.areas.rows a in
       record {
@@ -81,7 +81,7 @@ module _ (h : Hour) (s : Sound h) where
   with_party id area e =
       let call = EnterParty id area in
       let fits = none_fits (reasons call h) e in
-      let p = new_party (unsigned_abs id) (unsigned_abs area) in
+      let p = new_party (as_id id) (as_id area) in
       let g = made_by call h in
       record {
         areas = s.areas;
@@ -89,11 +89,11 @@ module _ (h : Hour) (s : Sound h) where
         resources = s.resources;
         one_ciso = s.one_ciso;
         single = λ i w.
-            let alone : (area_is_weim h (unsigned_abs area) && any_party_in (unsigned_abs area) h.parties.rows) ≡ false = grind (arith, fits) in
-            by_test (unsigned_abs area == i)
+            let alone : (area_is_weim h (as_id area) && any_party_in (as_id area) h.parties.rows) ≡ false = grind (arith, fits) in
+            by_test (as_id area == i)
             (λ same.
             let free : any_party_in i h.parties.rows ≡ false =
-            let here : (area_is_weim h i && any_party_in i h.parties.rows) ≡ false = subst (λ j. (area_is_weim h j && any_party_in j h.parties.rows) ≡ false) (eqb-true (unsigned_abs area) i same) alone in grind (arith, w, here) in
+            let here : (area_is_weim h i && any_party_in i h.parties.rows) ≡ false = subst (λ j. (area_is_weim h j && any_party_in j h.parties.rows) ≡ false) (eqb-true (as_id area) i same) alone in grind (arith, w, here) in
             grind (arith, same, none_if_not_any (λ p. p.area == i) h.parties.rows free, count_push (λ p. p.area == i) h.parties.rows p))
             (λ other. grind (arith, other, s.single i w, count_push (λ p. p.area == i) h.parties.rows p));
         homes = All-push (λ p. is_some (area_of h p.area) ≡ true) h.parties.rows p s.homes (grind (arith, fits));
@@ -104,7 +104,7 @@ module _ (h : Hour) (s : Sound h) where
   with_resource id owner kind net exempt e =
       let call = EnterResource id owner (Some kind) net exempt in
       let fits = none_fits (reasons call h) e in
-      let r = new_resource (unsigned_abs id) (unsigned_abs owner) kind (flag net) (flag exempt) in
+      let r = new_resource (as_id id) (as_id owner) kind (flag net) (flag exempt) in
       record {
         areas = s.areas;
         parties = s.parties;
@@ -141,20 +141,20 @@ none_new h = record {
 pub grows_made : (call : Call) (h : Hour) → Grows h (made_by call h)
 grows_made (EnterArea id None) h = none_new h
 grows_made (EnterArea id (Some kind)) h = record {
-  areas = more_ids area_id h.areas.rows (new_area (unsigned_abs id) kind);
+  areas = more_ids area_id h.areas.rows (new_area (as_id id) kind);
   parties = same_ids party_id h.parties.rows;
   resources = same_ids resource_id h.resources.rows;
 }
 grows_made (EnterParty id area) h = record {
   areas = same_ids area_id h.areas.rows;
-  parties = more_ids party_id h.parties.rows (new_party (unsigned_abs id) (unsigned_abs area));
+  parties = more_ids party_id h.parties.rows (new_party (as_id id) (as_id area));
   resources = same_ids resource_id h.resources.rows;
 }
 grows_made (EnterResource id owner None net exempt) h = none_new h
 grows_made (EnterResource id owner (Some kind) net exempt) h = record {
   areas = same_ids area_id h.areas.rows;
   parties = same_ids party_id h.parties.rows;
-  resources = more_ids resource_id h.resources.rows (new_resource (unsigned_abs id) (unsigned_abs owner) kind (flag net) (flag exempt));
+  resources = more_ids resource_id h.resources.rows (new_resource (as_id id) (as_id owner) kind (flag net) (flag exempt));
 }
 
 pub grows_left : (call : Call) (h : Hour) → Grows h (left_by call h)

@@ -1,13 +1,13 @@
 -- The calls: why each is refused, what it makes of the records, and what its refusal shows. Assumes nothing.
-use Rattle.std.specs.Prelude.{◌&&◌, List, [], ◌∷◌, Some, None, is_some, Result, pos, unsigned_abs}
-use Rattle.std.specs.Option.{option_map, option_map_or}
+use Rattle.std.specs.Prelude.{◌&&◌, List, [], ◌∷◌, Some, None, is_some, Result, pos}
+use Rattle.std.specs.Option.{option_map}
 use Rattle.tables.specs.declared.refusal.Reason.{Reason}
 use Rattle.tables.specs.declared.refusal.Reason.TheVariants.{OutsideSpan, OutsideValues, NotEntered, AlreadyEntered, Misfit, Full}
 use Rattle.tables.specs.declared.refusal.Place.{Place}
 use Rattle.tables.specs.declared.refusal.Part.TheVariants.{Charges}
 use Rattle.tables.specs.declared.refusal.Refusal.{Refusal}
-use Rattle.tables.specs.Refusals.{Fit, ◌when◌, ◌unless◌, first_fit, answered}
-use Rattle.tables.specs.Ranges.{is_id, is_flag, flag}
+use Rattle.tables.specs.Refusals.{Fit, ◌when◌, ◌unless◌, first_fit, answered, left}
+use Rattle.tables.specs.Ranges.{is_id, as_id, is_flag, flag}
 use Rattle.tables.specs.Tables.{has_room, with_row}
 use Rattle.charges.specs.declared.call.Call.{Call}
 use Rattle.charges.specs.declared.call.Call.TheVariants.{EnterArea, EnterParty, EnterResource}
@@ -21,16 +21,16 @@ abbrev pub reasons : Call → Hour → List (Fit Reason)
 reasons (EnterArea id kind) h =
     OutsideSpan unless is_id id
     ∷ OutsideValues unless is_some kind
-    ∷ AlreadyEntered when is_some (area_of h (unsigned_abs id))
+    ∷ AlreadyEntered when is_some (area_of h (as_id id))
     ∷ Misfit when (names_ciso kind && any_ciso h.areas.rows)
     ∷ Full unless has_room h.areas
     ∷ []
 reasons (EnterParty id area) h =
     OutsideSpan unless is_id id
     ∷ OutsideSpan unless is_id area
-    ∷ NotEntered unless is_some (area_of h (unsigned_abs area))
-    ∷ AlreadyEntered when is_some (party_of h (unsigned_abs id))
-    ∷ Misfit when (area_is_weim h (unsigned_abs area) && any_party_in (unsigned_abs area) h.parties.rows)
+    ∷ NotEntered unless is_some (area_of h (as_id area))
+    ∷ AlreadyEntered when is_some (party_of h (as_id id))
+    ∷ Misfit when (area_is_weim h (as_id area) && any_party_in (as_id area) h.parties.rows)
     ∷ Full unless has_room h.parties
     ∷ []
 reasons (EnterResource id owner kind net exempt) h =
@@ -39,9 +39,9 @@ reasons (EnterResource id owner kind net exempt) h =
     ∷ OutsideValues unless is_some kind
     ∷ OutsideValues unless is_flag net
     ∷ OutsideValues unless is_flag exempt
-    ∷ NotEntered unless is_some (party_of h (unsigned_abs owner))
-    ∷ AlreadyEntered when is_some (resource_of h (unsigned_abs id))
-    ∷ Misfit unless party_is_of_ciso h (unsigned_abs owner)
+    ∷ NotEntered unless is_some (party_of h (as_id owner))
+    ∷ AlreadyEntered when is_some (resource_of h (as_id id))
+    ∷ Misfit unless party_is_of_ciso h (as_id owner)
     ∷ Full unless has_room h.resources
     ∷ []
 
@@ -49,12 +49,12 @@ reasons (EnterResource id owner kind net exempt) h =
 abbrev pub made_by : Call → Hour → Hour
 made_by (EnterArea id None) h = h
 made_by (EnterArea id (Some kind)) h =
-    record h { areas = with_row h.areas (new_area (unsigned_abs id) kind) }
+    record h { areas = with_row h.areas (new_area (as_id id) kind) }
 made_by (EnterParty id area) h =
-    record h { parties = with_row h.parties (new_party (unsigned_abs id) (unsigned_abs area)) }
+    record h { parties = with_row h.parties (new_party (as_id id) (as_id area)) }
 made_by (EnterResource id owner None net exempt) h = h
 made_by (EnterResource id owner (Some kind) net exempt) h =
-    record h { resources = with_row h.resources (new_resource (unsigned_abs id) (unsigned_abs owner) kind (flag net) (flag exempt)) }
+    record h { resources = with_row h.resources (new_resource (as_id id) (as_id owner) kind (flag net) (flag exempt)) }
 
 -- what a call is about, as it gave it
 abbrev pub place_of : Call → Place
@@ -62,15 +62,15 @@ place_of (EnterArea id kind) = record { interval = pos 0; id = id }
 place_of (EnterParty id area) = record { interval = pos 0; id = id }
 place_of (EnterResource id owner kind net exempt) = record { interval = pos 0; id = id }
 
--- the answer to a call: the first reason that fits, if one does
-abbrev pub answer_to : Call → Hour → Result (Unit {0}) Reason
-answer_to call h = answered (first_fit (reasons call h))
+-- how a call is judged: by the first reason that fits, if one does
+abbrev pub judgment_of : Call → Hour → Result (Unit {0}) Reason
+judgment_of call h = answered (first_fit (reasons call h))
 
--- the same, as a refusal with the part and the place
-abbrev pub refused_or_done : Call → Hour → Result (Unit {0}) Refusal
-refused_or_done call h =
+-- the answer to a call: the same, as a refusal with its part and its place
+abbrev pub answer_to : Call → Hour → Result (Unit {0}) Refusal
+answer_to call h =
     answered (option_map (λ r. record { reason = r; part = Charges; place = place_of call }) (first_fit (reasons call h)))
 
 -- what a call leaves of the records: what it makes of them where no reason fits, and else just them
 abbrev pub left_by : Call → Hour → Hour
-left_by call h = option_map_or (λ r. h) (first_fit (reasons call h)) (made_by call h)
+left_by call h = left (first_fit (reasons call h)) (made_by call h) h

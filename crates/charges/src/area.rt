@@ -45,7 +45,7 @@ pub struct Area {
 
 impl Election {
     // What stands where nothing was posted: opted out.
-    pub fn none() -> Election
+    pub(crate) fn none() -> Election
         ensures { result ≡ no_election }
     {
         Election {
@@ -58,7 +58,7 @@ impl Election {
 }
 
 impl SufficiencyTest {
-    pub fn none() -> SufficiencyTest
+    pub(crate) fn none() -> SufficiencyTest
         ensures { result ≡ no_test }
     {
         SufficiencyTest {
@@ -70,7 +70,7 @@ impl SufficiencyTest {
 }
 
 impl Transfer {
-    pub fn none() -> Transfer
+    pub(crate) fn none() -> Transfer
         ensures { result ≡ no_transfer }
     {
         Transfer {

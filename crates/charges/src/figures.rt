@@ -71,7 +71,7 @@ impl Price {
     ghost use Rattle.std.specs.Prelude.{◌≡◌};
     ghost use Rattle.charges.specs.Figures.{zero_price};
 
-    pub fn zero() -> Price
+    pub(crate) fn zero() -> Price
         ensures { result ≡ zero_price }
     {
         Price {
@@ -84,7 +84,7 @@ impl BidCap {
     ghost use Rattle.std.specs.Prelude.{◌≡◌};
     ghost use Rattle.charges.specs.Figures.{zero_cap};
 
-    pub fn zero() -> BidCap
+    pub(crate) fn zero() -> BidCap
         ensures { result ≡ zero_cap }
     {
         BidCap {
@@ -97,7 +97,7 @@ impl Energy {
     ghost use Rattle.std.specs.Prelude.{◌≡◌};
     ghost use Rattle.charges.specs.Figures.{zero_energy};
 
-    pub fn zero() -> Energy
+    pub(crate) fn zero() -> Energy
         ensures { result ≡ zero_energy }
     {
         Energy { units: Units(0) }
@@ -108,7 +108,7 @@ impl Volume {
     ghost use Rattle.std.specs.Prelude.{◌≡◌};
     ghost use Rattle.charges.specs.Figures.{zero_volume};
 
-    pub fn zero() -> Volume
+    pub(crate) fn zero() -> Volume
         ensures { result ≡ zero_volume }
     {
         Volume { units: Units(0) }
@@ -119,7 +119,7 @@ impl GivenAmount {
     ghost use Rattle.std.specs.Prelude.{◌≡◌};
     ghost use Rattle.charges.specs.Figures.{zero_given};
 
-    pub fn zero() -> GivenAmount
+    pub(crate) fn zero() -> GivenAmount
         ensures { result ≡ zero_given }
     {
         GivenAmount { cents: Cents(0) }

@@ -4,7 +4,7 @@ ghost use Rattle.tables.specs.Refusals.{Tested};
 ghost use Rattle.tables.specs.declared.refusal.Reason.TheVariants.{Misfit};
 ghost use Rattle.charges.specs.Kinds.{is_ciso};
 ghost use Rattle.charges.specs.Hours.{any_ciso, any_party_in, area_is_ciso, opened};
-ghost use Rattle.charges.specs.Calls.{answer_to, left_by};
+ghost use Rattle.charges.specs.Calls.{judgment_of, left_by};
 ghost use Rattle.charges.specs.declared.call.Call.TheVariants.{EnterArea, EnterParty, EnterResource};
 
 use super::area::Area;
@@ -65,7 +65,7 @@ impl Hour {
 
     // Every call, as a value.
     pub(crate) fn take(&mut self, call: Call) -> Result<(), Reason>
-        ensures answer { result ≡ answer_to call self.old }
+        ensures answer { result ≡ judgment_of call self.old }
         ensures records { self.new ≡ left_by call self.old }
     {
         match call {
@@ -82,7 +82,7 @@ impl Hour {
     }
 
     fn enter_area(&mut self, id: i64, kind: Option<AreaKind>) -> Result<(), Reason>
-        ensures answer { result ≡ answer_to (EnterArea id kind) self.old }
+        ensures answer { result ≡ judgment_of (EnterArea id kind) self.old }
         ensures records { self.new ≡ left_by (EnterArea id kind) self.old }
     {
         let id = id_of(id)?;
@@ -95,7 +95,7 @@ impl Hour {
     }
 
     fn enter_party(&mut self, id: i64, area: i64) -> Result<(), Reason>
-        ensures answer { result ≡ answer_to (EnterParty id area) self.old }
+        ensures answer { result ≡ judgment_of (EnterParty id area) self.old }
         ensures records { self.new ≡ left_by (EnterParty id area) self.old }
     {
         let id = id_of(id)?;
@@ -114,7 +114,7 @@ impl Hour {
         net: i64,
         exempt: i64,
     ) -> Result<(), Reason>
-        ensures answer { result ≡ answer_to (EnterResource id owner kind net exempt) self.old }
+        ensures answer { result ≡ judgment_of (EnterResource id owner kind net exempt) self.old }
         ensures records { self.new ≡ left_by (EnterResource id owner kind net exempt) self.old }
     {
         let id = id_of(id)?;

@@ -24,7 +24,7 @@ pub struct Party {
 }
 
 impl GivenAmounts {
-    pub fn none() -> GivenAmounts
+    pub(crate) fn none() -> GivenAmounts
         ensures { result ≡ nothing_given }
     {
         GivenAmounts {

@@ -2,7 +2,7 @@
 ghost use Rattle.std.specs.Prelude.{◌≡◌, IfOk};
 ghost use Rattle.charges.specs.Kinds.{area_kind, resource_kind};
 ghost use Rattle.charges.specs.Hours.{opened};
-ghost use Rattle.charges.specs.Calls.{refused_or_done, left_by};
+ghost use Rattle.charges.specs.Calls.{answer_to, left_by};
 ghost use Rattle.charges.specs.Sound.{Sound, Step, Grows, StepsKeepSound};
 ghost use Rattle.charges.specs.declared.call.Call.TheVariants.{EnterArea, EnterParty, EnterResource};
 
@@ -51,7 +51,7 @@ impl Records {
 
     // The one way in: every call, as a value. Refused, nothing changes.
     pub fn take(&mut self, call: Call) -> Result<(), Refusal>
-        ensures answer { result ≡ refused_or_done call self.old }
+        ensures answer { result ≡ answer_to call self.old }
         ensures records { self.new ≡ left_by call self.old }
         ensures sound { Sound self.new }
         ensures step { IfOk result (λ _. Step self.old self.new) }
@@ -69,7 +69,7 @@ impl Records {
 
     // Enters an area of kind `C` or `W`.
     pub fn enter_area(&mut self, id: i64, kind: &[u8]) -> Result<(), Refusal>
-        ensures answer { result ≡ refused_or_done (EnterArea id (area_kind kind.now)) self.old }
+        ensures answer { result ≡ answer_to (EnterArea id (area_kind kind.now)) self.old }
         ensures records { self.new ≡ left_by (EnterArea id (area_kind kind.now)) self.old }
     {
         self.take(Call::EnterArea {
@@ -80,7 +80,7 @@ impl Records {
 
     // Enters a party of an area.
     pub fn enter_party(&mut self, id: i64, area: i64) -> Result<(), Refusal>
-        ensures answer { result ≡ refused_or_done (EnterParty id area) self.old }
+        ensures answer { result ≡ answer_to (EnterParty id area) self.old }
         ensures records { self.new ≡ left_by (EnterParty id area) self.old }
     {
         self.take(Call::EnterParty { id, area })
@@ -95,7 +95,7 @@ impl Records {
         net: i64,
         exempt: i64,
     ) -> Result<(), Refusal>
-        ensures answer { result ≡ refused_or_done (EnterResource id owner (resource_kind kind.now) net exempt) self.old }
+        ensures answer { result ≡ answer_to (EnterResource id owner (resource_kind kind.now) net exempt) self.old }
         ensures records { self.new ≡ left_by (EnterResource id owner (resource_kind kind.now) net exempt) self.old }
     {
         self.take(Call::EnterResource {

@@ -40,7 +40,7 @@ pub struct Resource {
 
 impl EnergyRecord {
     // What stands where nothing was posted.
-    pub fn none() -> EnergyRecord
+    pub(crate) fn none() -> EnergyRecord
         ensures { result ≡ no_energy }
     {
         EnergyRecord {

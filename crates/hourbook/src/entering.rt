@@ -1,6 +1,6 @@
 // Enters the areas, the parties and a resource of a sample hour, and meets each refusal that entering knows.
 ghost use Rattle.std.specs.Prelude.{◌≡◌};
-ghost use Rattle.charges.specs.Calls.{refused_or_done, left_by};
+ghost use Rattle.charges.specs.Calls.{answer_to, left_by};
 ghost use Rattle.hourbook.specs.Entering.{call_of};
 
 use charges::Records;
@@ -88,7 +88,7 @@ impl fmt::Display for Row {
 
 // Makes the call.
 fn enter(records: &mut Records, entry: Entry) -> Result<(), Refusal>
-    ensures answer { result ≡ refused_or_done (call_of entry) records.old }
+    ensures answer { result ≡ answer_to (call_of entry) records.old }
     ensures records { records.new ≡ left_by (call_of entry) records.old }
 {
     match entry {

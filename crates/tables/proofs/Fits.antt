@@ -1,8 +1,7 @@
 -- What follows where no reason fits, and of a number that is an id. Assumes nothing.
-use Rattle.std.proofs.Common.{◌≡◌, refl, true, false, List, [], ◌∷◌, Option, Some, None, ℤ, pos, negsuc, unsigned_abs, arith}
-use Rattle.std.specs.Option.{option_map_or}
-use Rattle.tables.specs.Refusals.{Fit, first_fit}
-use Rattle.tables.specs.Ranges.{in_range, is_id}
+use Rattle.std.proofs.Common.{◌≡◌, refl, true, false, List, [], ◌∷◌, Option, Some, None, ℤ, pos, negsuc, arith}
+use Rattle.tables.specs.Refusals.{Fit, first_fit, left}
+use Rattle.tables.specs.Ranges.{in_range, is_id, as_id}
 use Rattle.tables.specs.Keyed.{IsId}
 
 -- no reason of a list fits
@@ -17,11 +16,11 @@ none_fits (f ∷ fs) e =
     (here, none_fits fs (grind (arith, e, here)))
 
 -- what holds of what a call makes, and of what was there, holds of what it leaves
-pub left_either : {R H : Type 0} (P : H → Type 0) (o : Option R) (before made : H) → (o ≡ None → P made) → P before → P (option_map_or (λ r. before) o made)
+pub left_either : {R H : Type 0} (P : H → Type 0) (o : Option R) (before made : H) → (o ≡ None → P made) → P before → P (left o made before)
 left_either P None before made f w = f refl
 left_either P (Some r) before made f w = w
 
-pub id_in_span : (z : ℤ) → is_id z ≡ true → IsId (unsigned_abs z)
+pub id_in_span : (z : ℤ) → is_id z ≡ true → IsId (as_id z)
 unfolding in_range
 id_in_span (pos n) e = record { from_1 = grind (arith, e); to_last = grind (arith, e) }
 id_in_span (negsuc n) e = absurd (grind (arith, e))

@@ -10,6 +10,10 @@ in_range low high z = int_le low z && int_le z high
 abbrev pub is_id : ℤ → Bool
 is_id z = in_range (pos 1) (pos last_id) z
 
+-- the id that a number inside the span is
+abbrev pub as_id : ℤ → ℕ
+as_id z = unsigned_abs z
+
 abbrev pub is_flag : ℤ → Bool
 is_flag z = in_range (pos 0) (pos 1) z
 

@@ -75,10 +75,10 @@ abbrev pub answered : {R : Type 0} → Option R → Result (Unit {0}) R
 answered None = Ok tt
 answered (Some r) = Err r
 
--- what a call leaves: what it makes where it meets no reason, else what was there
-abbrev pub left_by : {R X : Type 0} → Option R → X → X → X
-left_by None made before = made
-left_by (Some r) made before = before
+-- what a call leaves: what it makes where it meets no reason, and else what was there
+abbrev pub left : {R X : Type 0} → Option R → X → X → X
+left None made before = made
+left (Some r) made before = before
 
 -- the answer of one test: the value where it passes, else the reason
 abbrev pub Tested : {R X : Type 0} → Bool → X → R → Result X R → Type 0
