@@ -1,7 +1,6 @@
 // An area, with its election of assistance energy transfers, its sufficiency tests and its transfers.
 ghost use Rattle.std.specs.Prelude.{◌≡◌};
 ghost use Rattle.charges.specs.Rows.{no_election, no_test, no_transfer, new_area};
-ghost use Rattle.charges.specs.Kinds.{is_ciso};
 
 use super::figures::{BidCap, Volume};
 use super::kinds::AreaKind;

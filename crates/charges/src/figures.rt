@@ -37,7 +37,7 @@ pub struct Price {
     ghost within: { unsigned_abs steps.0 ≤ most_price },
 }
 
-// The most that a transfer's energy is bid at.
+// A bid cap, never below 0.
 #[derive(Clone, Copy, PartialEq, Eq, Debug)]
 pub struct BidCap {
     pub steps: PriceSteps,
@@ -52,7 +52,7 @@ pub struct Energy {
     ghost within: { unsigned_abs units.0 ≤ most_energy },
 }
 
-// Energy of an interval that has no sign. A kW over an interval is a unit.
+// Energy of an interval, never below 0. A kW over an interval is a unit.
 #[derive(Clone, Copy, PartialEq, Eq, Debug)]
 pub struct Volume {
     pub units: Units,

@@ -21,17 +21,20 @@ pub struct EnergyRecord {
     pub res: Energy,
     pub above: Energy,
     pub edqty: Energy,
+    // whether resprice is the price of the residual energy
     pub resflag: bool,
+    // the type of an exceptional dispatch
     pub ed: Option<DispatchType>,
 }
 
-// What is said of a resource where it is entered, beside its id and its owner.
 #[derive(Drop)]
 pub struct Resource {
     pub id: u16,
     pub owner: u16,
     pub kind: ResourceKind,
+    // of a metered subsystem that has elected net settlement
     pub net: bool,
+    // from CC 6470
     pub exempt: bool,
     pub energy: [EnergyRecord; INTERVALS],
     pub tags: [Tag; INTERVALS],

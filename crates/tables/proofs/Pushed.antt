@@ -6,7 +6,7 @@ use Rattle.std.proofs.lemmas.List.Folds.{find-append}
 use Rattle.std.proofs.lemmas.List.Sums.{sum_by-cons}
 use Rattle.std.proofs.lemmas.List.Quantifiers.{all_pairs_push}
 use Rattle.std.proofs.lemmas.Grind.{common_steps}
-use Rattle.tables.specs.Rows.{Table}
+use Rattle.tables.specs.View.{Table}
 use Rattle.tables.specs.Tables.{entered, has_room, with_row, opened}
 use Rattle.tables.specs.Keyed.{Keyed, IsId}
 

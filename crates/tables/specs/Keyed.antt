@@ -2,7 +2,7 @@
 use Rattle.std.specs.Prelude.{◌≢◌, ℕ, ◌≤◌, length}
 use Rattle.std.specs.List.{All, AllPairs}
 use Rattle.tables.specs.Ranges.{last_id}
-use Rattle.tables.specs.Rows.{Table}
+use Rattle.tables.specs.View.{Table}
 
 pub record IsId (id : ℕ) : Type 0 where
   pub from_1 : 1 ≤ id

@@ -1,5 +1,5 @@
 pub mod Refusals
 pub mod Ranges
-pub mod Rows
+pub mod View
 pub mod Tables
 pub mod Keyed

@@ -1,6 +1,6 @@
 -- Rows by their ids, and what is done with a table. Assumes nothing.
 use Rattle.std.specs.Prelude.{◌≡◌, ℕ, ◌==◌, nat_lt, Bool, true, false, List, [], ◌∷◌, ◌++◌, length, Option, is_some, find, position, Result, Ok, Err}
-use Rattle.tables.specs.Rows.{Table}
+use Rattle.tables.specs.View.{Table}
 use Rattle.tables.specs.declared.refusal.Reason.{Reason}
 use Rattle.tables.specs.declared.refusal.Reason.TheVariants.{Full}
 

@@ -1,6 +1,5 @@
 // A table of rows that are known by an id, in the order entered. All memory is reserved at opening.
-ghost use Rattle.std.specs.Prelude.{◌≡◌, ℕ, [], None, Some, IfOk, MatchOption, MatchResult, option_copied, not};
-ghost use Rattle.std.specs.Borrow.{sem};
+ghost use Rattle.std.specs.Prelude.{◌≡◌, ℕ, None, Some, IfOk, MatchResult, not};
 ghost use Rattle.tables.specs.Refusals.{Tested};
 ghost use Rattle.tables.specs.Tables.{found, place, entered, opened, TriedToAdd};
 ghost use Rattle.tables.specs.declared.refusal.Reason.TheVariants.{NotEntered, AlreadyEntered};
@@ -24,7 +23,7 @@ pub struct Table<T> {
 }
 
 impl<T> Model for Table<T> {
-    ghost use Rattle.tables.specs.Rows.{Table as Rows, table_code};
+    ghost use Rattle.tables.specs.View.{Table as Rows, table_code};
 
     ghost Value = { Rows T };
 
