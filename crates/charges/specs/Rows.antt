@@ -1,7 +1,10 @@
 -- The rows of the tables as they are entered, before anything is posted. Assumes nothing.
-use Rattle.std.specs.Prelude.{ℕ, Bool, false, None, replicate, pos}
+use Rattle.std.specs.Prelude.{ℕ, Bool, false, List, None, replicate, pos}
+use Rattle.deemed.specs.declared.quantities.Units.{Units}
+use Rattle.deemed.specs.declared.tag.Tag.{Tag}
 use Rattle.deemed.specs.Ranges.{hour_length}
 use Rattle.deemed.specs.Tags.{no_tag}
+use Rattle.charges.specs.declared.figures.Volume.{Volume}
 use Rattle.charges.specs.declared.kinds.AreaKind.{AreaKind}
 use Rattle.charges.specs.declared.kinds.ResourceKind.{ResourceKind}
 use Rattle.charges.specs.declared.area.Election.{Election}
@@ -16,25 +19,30 @@ use Rattle.charges.specs.Ranges.{quarters}
 use Rattle.charges.specs.Figures.{zero_price, zero_cap, zero_energy, zero_volume, zero_given}
 
 -- an area is opted out
-abbrev pub no_election : Election
+unfoldable pub no_election : Election
 no_election = record { opted_in = false; cap = zero_cap; up = zero_volume; nopay = zero_volume }
 
 abbrev pub no_test : SufficiencyTest
 no_test = record { capacity = zero_volume; ramp = zero_volume; nopay = zero_volume }
 
+-- in every quarter
+unfoldable pub no_tests : List SufficiencyTest
+no_tests = replicate quarters no_test
+
 abbrev pub no_transfer : Transfer
 no_transfer = record { to = zero_volume; base_to = zero_volume; from = zero_volume; base_from = zero_volume }
 
-abbrev pub new_area : ℕ → AreaKind → Area
-new_area id kind = record {
-  id = id;
-  kind = kind;
-  election = no_election;
-  tests = replicate quarters no_test;
-  transfers = replicate hour_length no_transfer;
-}
+-- in every interval, as what follows
+unfoldable pub no_transfers : List Transfer
+no_transfers = replicate hour_length no_transfer
 
-abbrev pub nothing_given : GivenAmounts
+abbrev pub new_area : ℕ → AreaKind → Area
+new_area id kind = record { id = id; kind = kind; election = no_election; tests = no_tests; transfers = no_transfers }
+
+unfoldable pub no_demand : List Volume
+no_demand = replicate hour_length zero_volume
+
+unfoldable pub nothing_given : GivenAmounts
 nothing_given = record {
   pass_through = replicate hour_length zero_given;
   cc_6474 = replicate hour_length zero_given;
@@ -42,7 +50,7 @@ nothing_given = record {
 }
 
 abbrev pub new_party : ℕ → ℕ → Party
-new_party id area = record { id = id; area = area; demand = replicate hour_length zero_volume; given = nothing_given }
+new_party id area = record { id = id; area = area; demand = no_demand; given = nothing_given }
 
 -- no exceptional dispatch
 abbrev pub no_energy : EnergyRecord
@@ -61,6 +69,16 @@ no_energy = record {
   ed = None;
 }
 
+unfoldable pub no_energies : List EnergyRecord
+no_energies = replicate hour_length no_energy
+
+unfoldable pub no_tags : List Tag
+no_tags = replicate hour_length no_tag
+
+-- nothing is deemed delivered
+unfoldable pub nothing_deemed : List Units
+nothing_deemed = replicate hour_length (record { 0 = pos 0 })
+
 abbrev pub new_resource : ℕ → ℕ → ResourceKind → Bool → Bool → Resource
 new_resource id owner kind net exempt = record {
   id = id;
@@ -68,7 +86,7 @@ new_resource id owner kind net exempt = record {
   kind = kind;
   net = net;
   exempt = exempt;
-  energy = replicate hour_length no_energy;
-  tags = replicate hour_length no_tag;
-  deemed = replicate hour_length (record { 0 = pos 0 });
+  energy = no_energies;
+  tags = no_tags;
+  deemed = nothing_deemed;
 }

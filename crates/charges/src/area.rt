@@ -44,6 +44,7 @@ pub struct Area {
 
 impl Election {
     // What stands where nothing was posted: opted out.
+    #[tactic(auto, unfolding(crate::specs::Rows::no_election))]
     pub(crate) fn none() -> Election
         ensures { result ≡ no_election }
     {
@@ -83,6 +84,7 @@ impl Transfer {
 
 impl Area {
     // An area as it is entered, for which nothing is posted yet.
+    #[tactic(auto, unfolding(crate::specs::Rows::no_tests, crate::specs::Rows::no_transfers))]
     pub(crate) fn new(id: u16, kind: AreaKind) -> Area
         ensures { result ≡ new_area id kind }
     {

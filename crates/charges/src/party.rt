@@ -24,6 +24,7 @@ pub struct Party {
 }
 
 impl GivenAmounts {
+    #[tactic(auto, unfolding(crate::specs::Rows::nothing_given))]
     pub(crate) fn none() -> GivenAmounts
         ensures { result ≡ nothing_given }
     {
@@ -37,6 +38,7 @@ impl GivenAmounts {
 
 impl Party {
     // A party as it is entered, for which nothing is posted yet.
+    #[tactic(auto, unfolding(crate::specs::Rows::no_demand))]
     pub(crate) fn new(id: u16, area: u16) -> Party
         ensures { result ≡ new_party id area }
     {

@@ -65,6 +65,7 @@ impl EnergyRecord {
 
 impl Resource {
     // A resource as it is entered, for which nothing is posted yet.
+    #[tactic(auto, unfolding(crate::specs::Rows::no_energies, crate::specs::Rows::no_tags, crate::specs::Rows::nothing_deemed))]
     pub(crate) fn new(id: u16, owner: u16, kind: ResourceKind, net: bool, exempt: bool) -> Resource
         ensures { result ≡ new_resource id owner kind net exempt }
     {
