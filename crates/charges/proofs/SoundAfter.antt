@@ -1,5 +1,5 @@
 -- Every call leaves sound records sound, and only adds ids. Assumes nothing.
-use Rattle.std.proofs.Common.{◌≡◌, refl, sym, ap, ◌∙◌, subst, ℕ, ◌+◌, ◌==◌, Bool, true, false, cond, not, ◌&&◌, List, [], ◌∷◌, ◌++◌, map, Option, Some, None, is_some, ℤ, arith, eqb-true}
+use Rattle.std.proofs.Common.{◌≡◌, refl, sym, ap, ◌∙◌, subst, ℕ, ◌+◌, ◌≤◌, ◌==◌, Bool, true, false, cond, not, ◌&&◌, List, [], ◌∷◌, ◌++◌, map, Option, Some, None, is_some, ℤ, arith, eqb-true}
 use Rattle.std.specs.List.{All, list_any, count_by}
 use Rattle.std.specs.Option.{option_map_or}
 use Rattle.std.proofs.lemmas.List.{append-nil, map-append}
@@ -27,6 +27,7 @@ there : {T : Type 0} (f : T → Bool) (o : Option T) → option_map_or f o false
 there f None e = e
 there f (Some x) e = refl
 
+-- one more is counted where it passes
 count_push : {T : Type 0} (p : T → Bool) (xs : List T) (y : T) → count_by p (xs ++ y ∷ []) ≡ count_by p xs + cond (p y) 1 0
 count_push p xs y = sum_by_push (λ x. cond (p x) 1 0) xs y
 
@@ -47,6 +48,7 @@ module _ (h g : Hour) where
       home None e = e
       home (Some p) e = ciso_stays p.area (areas p.area) e
 
+-- a test passes or fails
 by_test : {P : Type 0} (b : Bool) → (b ≡ true → P) → (b ≡ false → P) → P
 by_test true f g = f refl
 by_test false f g = g refl
@@ -56,6 +58,18 @@ module _ (h : Hour) (s : Sound h) where
   homeless : (i : ℕ) → is_some (area_of h i) ≡ false → All (λ p. (p.area == i) ≡ false) h.parties.rows
   homeless i n = All-weaker (λ p. is_some (area_of h p.area) ≡ true) (λ p. (p.area == i) ≡ false) (λ p e. by_test (p.area == i) (λ same. absurd (grind (arith, e, n, eqb-true p.area i same))) (λ other. other)) h.parties.rows s.homes
 
+  -- a WEIM area takes one party more only where it has none
+  single_more : (i : ℕ) (p : Party) → (area_is_weim h p.area && any_party_in p.area h.parties.rows) ≡ false → area_is_weim h i ≡ true → count_by (λ q. q.area == i) (h.parties.rows ++ p ∷ []) ≤ 1
+  single_more i p free w =
+      by_test (p.area == i)
+      (λ same.
+      let here : (area_is_weim h i && any_party_in i h.parties.rows) ≡ false =
+      subst (λ j. (area_is_weim h j && any_party_in j h.parties.rows) ≡ false) (eqb-true p.area i same) free in
+      let none : any_party_in i h.parties.rows ≡ false = grind (arith, w, here) in
+      grind (arith, same, none_if_not_any (λ q. q.area == i) h.parties.rows none, count_push (λ q. q.area == i) h.parties.rows p))
+      (λ other. grind (arith, other, s.single i w, count_push (λ q. q.area == i) h.parties.rows p))
+
+  -- each accepted call in turn
   with_area : (id : ℤ) (kind : AreaKind) → first_fit (reasons (EnterArea id (Some kind)) h) ≡ None → Sound (made_by (EnterArea id (Some kind)) h)
   with_area id kind e =
       let call = EnterArea id (Some kind) in
@@ -88,14 +102,7 @@ module _ (h : Hour) (s : Sound h) where
         parties = keyed_push party_id most_parties h.parties p (grind (arith, fits)) (id_in_span id (grind (arith, fits))) (grind (arith, fits)) s.parties;
         resources = s.resources;
         one_ciso = s.one_ciso;
-        single = λ i w.
-            let alone : (area_is_weim h (as_id area) && any_party_in (as_id area) h.parties.rows) ≡ false = grind (arith, fits) in
-            by_test (as_id area == i)
-            (λ same.
-            let free : any_party_in i h.parties.rows ≡ false =
-            let here : (area_is_weim h i && any_party_in i h.parties.rows) ≡ false = subst (λ j. (area_is_weim h j && any_party_in j h.parties.rows) ≡ false) (eqb-true (as_id area) i same) alone in grind (arith, w, here) in
-            grind (arith, same, none_if_not_any (λ p. p.area == i) h.parties.rows free, count_push (λ p. p.area == i) h.parties.rows p))
-            (λ other. grind (arith, other, s.single i w, count_push (λ p. p.area == i) h.parties.rows p));
+        single = λ i w. single_more i p (grind (arith, fits)) w;
         homes = All-push (λ p. is_some (area_of h p.area) ≡ true) h.parties.rows p s.homes (grind (arith, fits));
         owners = All-weaker _ _ (λ r e. of_ciso_stays h g r.owner (λ _ _. refl) (find_kept (λ x. x.id == r.owner) h.parties.rows p) e) h.resources.rows s.owners;
       }

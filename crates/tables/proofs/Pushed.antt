@@ -1,5 +1,5 @@
 -- What a row that is added leaves of the others. Assumes nothing.
-use Rattle.std.proofs.Common.{◌≡◌, ◌≢◌, refl, ◌∙◌, ℕ, ◌≤◌, Bool, true, false, cond, List, [], ◌∷◌, ◌++◌, is_some, ◌==◌, arith}
+use Rattle.std.proofs.Common.{◌≡◌, ◌≢◌, refl, ◌∙◌, ℕ, Bool, true, false, cond, List, [], ◌∷◌, ◌++◌, is_some, ◌==◌, arith}
 use Rattle.std.specs.List.{All, find, list_any, count_by}
 use Rattle.std.proofs.lemmas.List.Elements.{All-nil, All-cons, All-head, All-push, All-tail}
 use Rattle.std.proofs.lemmas.List.Folds.{find-append}
@@ -7,7 +7,7 @@ use Rattle.std.proofs.lemmas.List.Sums.{sum_by-cons}
 use Rattle.std.proofs.lemmas.List.Quantifiers.{all_pairs_push}
 use Rattle.std.proofs.lemmas.Grind.{common_steps}
 use Rattle.tables.specs.View.{Table}
-use Rattle.tables.specs.Tables.{entered, has_room, with_row, opened}
+use Rattle.tables.specs.Tables.{entered, has_room, with_row}
 use Rattle.tables.specs.Keyed.{Keyed, IsId}
 
 module _ {T : Type 0} (p : T → Bool) where
@@ -22,6 +22,7 @@ module _ {T : Type 0} (p : T → Bool) where
   pub find_kept : (xs : List T) (y : T) → is_some (find p xs) ≡ true → find p (xs ++ y ∷ []) ≡ find p xs
   find_kept xs y e = find-append p xs (y ∷ []) ∙ grind (arith, e)
 
+  -- where none passes, none is counted
   pub count_none : (xs : List T) → All (λ x. p x ≡ false) xs → count_by p xs ≡ 0
   count_none [] h = refl
   count_none (x ∷ xs) h =
@@ -36,9 +37,7 @@ module _ {T : Type 0} (p : T → Bool) where
       All-cons (λ x. p x ≡ false) x xs first (none_of_any xs (grind (arith, e, first)))
 
 module _ {T : Type 0} (key : T → ℕ) (full : ℕ) where
-  pub keyed_opened : (most : ℕ) → most ≤ full → Keyed key full (opened most)
-  keyed_opened most b = record { fits = omega arith; bound = b; ids = All-nil (λ x. IsId (key x)); distinct = λ i j d l m. absurd (omega arith) }
-
+  -- a row with an id that is new
   pub keyed_push : (t : Table T) (x : T) → has_room t ≡ true → IsId (key x) → entered key (key x) t.rows ≡ false → Keyed key full t → Keyed key full (with_row t x)
   keyed_push t x room id new h = record {
     fits = grind (arith, common_steps);
