@@ -1,0 +1,126 @@
+// Makes the calls of the input on the records of hours, to be compared with an independent calculation.
+#![tactic(auto)]
+
+use anyhow::{Context, bail};
+use charges::{AreaKind, Records, Resource, ResourceKind};
+use std::alloc::Global;
+use std::array;
+use std::io::{self, BufRead, BufReader, BufWriter, Write};
+use tables::Refusal;
+
+// The most words that a line has.
+const WORDS: usize = 6;
+
+// The word of a kind, as it is given. A line shows the empty word as a dash.
+fn kind_word(word: &str) -> &[u8] {
+    if word == "-" { b"" } else { word.as_bytes() }
+}
+
+// The words of a line, and empty words behind them.
+fn words_of(line: &str) -> [&str; WORDS] {
+    let mut words = line.split(' ');
+    array::from_fn(|_| words.next().unwrap_or(""))
+}
+
+// Makes a call, and gives what came of it.
+fn enter(records: &mut Records, words: [&str; WORDS]) -> anyhow::Result<Result<(), Refusal>> {
+    Ok(match words {
+        ["area", id, kind, ..] => records.enter_area(id.parse()?, kind_word(kind)),
+        ["party", id, area, ..] => records.enter_party(id.parse()?, area.parse()?),
+        ["resource", id, owner, kind, net, exempt] => records.enter_resource(
+            id.parse()?,
+            owner.parse()?,
+            kind_word(kind),
+            net.parse()?,
+            exempt.parse()?,
+        ),
+        _ => bail!("no such call"),
+    })
+}
+
+fn print_outcome(out: &mut impl Write, outcome: Result<(), Refusal>) -> io::Result<()> {
+    match outcome {
+        Ok(()) => writeln!(out, "ok"),
+        Err(refusal) => writeln!(out, "{refusal}"),
+    }
+}
+
+fn area_letter(kind: AreaKind) -> char {
+    match kind {
+        AreaKind::Ciso => 'C',
+        AreaKind::Weim => 'W',
+    }
+}
+
+fn resource_letter(kind: ResourceKind) -> char {
+    match kind {
+        ResourceKind::Plain => 'P',
+        ResourceKind::StaticTie => 'S',
+        ResourceKind::DynamicTie => 'D',
+    }
+}
+
+fn print_resource(out: &mut impl Write, resource: &Resource) -> io::Result<()> {
+    let kind = resource_letter(resource.kind);
+    let net = u8::from(resource.net);
+    let exempt = u8::from(resource.exempt);
+    write!(
+        out,
+        " {}:{}:{kind}:{net}:{exempt}",
+        resource.id, resource.owner
+    )
+}
+
+// A line for each table, with its rows in their order.
+fn print_tables(out: &mut impl Write, records: &Records) -> io::Result<()> {
+    write!(out, "areas")?;
+    for area in records.areas() {
+        write!(out, " {}:{}", area.id, area_letter(area.kind))?;
+    }
+    write!(out, "\nparties")?;
+    for party in records.parties() {
+        write!(out, " {}:{}", party.id, party.area)?;
+    }
+    write!(out, "\nresources")?;
+    for resource in records.resources() {
+        print_resource(out, resource)?;
+    }
+    writeln!(out)
+}
+
+// Makes the call of a line, and prints what came of it. Where new records are opened, it prints those before.
+fn take_line(
+    out: &mut impl Write,
+    heap: Global,
+    current: &mut Option<Records>,
+    line: &str,
+) -> anyhow::Result<()> {
+    let words = words_of(line);
+    if let ["open", areas, parties, resources, ..] = words {
+        if let Some(records) = current {
+            print_tables(out, records)?;
+        }
+        *current = Some(Records::open(heap, areas.parse()?, parties.parse()?, resources.parse()?)?);
+        return Ok(());
+    }
+    let records = current.as_mut().context("no records are open")?;
+    print_outcome(out, enter(records, words)?)?;
+    Ok(())
+}
+
+fn run(rt: &HostRuntime) -> anyhow::Result<()> {
+    let mut out = BufWriter::new(rt.alloc(), rt.stdout())?;
+    let mut current = None;
+    for line in BufReader::new(rt.alloc(), rt.stdin())?.lines(rt.alloc()) {
+        take_line(&mut out, rt.alloc(), &mut current, line?.as_str())?;
+    }
+    if let Some(records) = &current {
+        print_tables(&mut out, records)?;
+    }
+    out.flush()?;
+    Ok(())
+}
+
+fn main(rt: HostRuntime) -> anyhow::Result<()> {
+    run(&rt)
+}
