@@ -109,21 +109,24 @@ impl Records {
 
     // The areas, in the order entered.
     pub fn areas(&self) -> &[Area]
-        ensures { result.now ≡ self.now.areas.rows }
+        ensures rows { result.now ≡ self.now.areas.rows }
+        ensures sound { Sound self.now }
     {
         self.hour.areas.rows()
     }
 
     // The parties, in the order entered.
     pub fn parties(&self) -> &[Party]
-        ensures { result.now ≡ self.now.parties.rows }
+        ensures rows { result.now ≡ self.now.parties.rows }
+        ensures sound { Sound self.now }
     {
         self.hour.parties.rows()
     }
 
     // The resources, in the order entered.
     pub fn resources(&self) -> &[Resource]
-        ensures { result.now ≡ self.now.resources.rows }
+        ensures rows { result.now ≡ self.now.resources.rows }
+        ensures sound { Sound self.now }
     {
         self.hour.resources.rows()
     }
