@@ -45,7 +45,7 @@ reasons (EnterResource id owner kind net exempt) h =
     ∷ Full unless has_room h.resources
     ∷ []
 
--- what an accepted call makes of the records
+-- what an accepted call makes of the records; one that names no kind is never accepted
 abbrev pub made_by : Call → Hour → Hour
 made_by (EnterArea id None) h = h
 made_by (EnterArea id (Some kind)) h =

@@ -22,9 +22,9 @@ pub struct Records {
 }
 
 impl Model for Records {
-    ghost use Rattle.charges.specs.declared.hour.Hour.{Hour as Tables};
+    ghost use Rattle.charges.specs.declared.hour.Hour.{Hour};
 
-    ghost Value = { Tables };
+    ghost Value = { Hour };
 
     ghost use Rattle.charges.specs.Sound.{Sound};
 

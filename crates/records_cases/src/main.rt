@@ -16,10 +16,11 @@ fn kind_word(word: &str) -> &[u8] {
     if word == "-" { b"" } else { word.as_bytes() }
 }
 
-// The words of a line, and empty words behind them.
-fn words_of(line: &str) -> [&str; WORDS] {
+// The words of a line, and empty words behind them; nothing where it has more.
+fn words_of(line: &str) -> Option<[&str; WORDS]> {
     let mut words = line.split(' ');
-    array::from_fn(|_| words.next().unwrap_or(""))
+    let first = array::from_fn(|_| words.next().unwrap_or(""));
+    words.next().is_none().then_some(first)
 }
 
 // Makes a call, and gives what came of it.
@@ -95,7 +96,7 @@ fn take_line(
     current: &mut Option<Records>,
     line: &str,
 ) -> anyhow::Result<()> {
-    let words = words_of(line);
+    let words = words_of(line).context("a call has six words at most")?;
     if let ["open", areas, parties, resources, ..] = words {
         if let Some(records) = current {
             print_tables(out, records)?;

@@ -2,13 +2,13 @@
 use Rattle.std.proofs.Common.{◌≡◌, refl, true, false, List, [], ◌∷◌, Option, Some, None, ℤ, pos, negsuc, arith}
 use Rattle.tables.specs.Refusals.{Fit, first_fit, left}
 use Rattle.tables.specs.Ranges.{in_range, is_id, as_id}
-use Rattle.tables.specs.Keyed.{IsId}
 
 -- no reason of a list fits
 abbrev pub NoneFits : {R : Type 0} → List (Fit R) → Type 0
 NoneFits [] = Unit {0}
 NoneFits (f ∷ fs) = (f.fits ≡ false) × NoneFits fs
 
+-- where there is no first that fits
 pub none_fits : {R : Type 0} (fs : List (Fit R)) → first_fit fs ≡ None → NoneFits fs
 none_fits [] e = tt
 none_fits (f ∷ fs) e =
@@ -20,7 +20,8 @@ pub left_either : {R H : Type 0} (P : H → Type 0) (o : Option R) (before made 
 left_either P None before made f w = f refl
 left_either P (Some r) before made f w = w
 
-pub id_in_span : (z : ℤ) → is_id z ≡ true → IsId (as_id z)
+-- a number inside the span is the id that it gives
+pub id_in_span : (z : ℤ) → is_id z ≡ true → is_id (pos (as_id z)) ≡ true
 unfolding in_range
-id_in_span (pos n) e = record { from_1 = grind (arith, e); to_last = grind (arith, e) }
+id_in_span (pos n) e = e
 id_in_span (negsuc n) e = absurd (grind (arith, e))

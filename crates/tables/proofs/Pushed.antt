@@ -1,14 +1,15 @@
 -- What a row that is added leaves of the others. Assumes nothing.
-use Rattle.std.proofs.Common.{◌≡◌, ◌≢◌, refl, ◌∙◌, ℕ, Bool, true, false, cond, List, [], ◌∷◌, ◌++◌, is_some, ◌==◌, arith}
+use Rattle.std.proofs.Common.{◌≡◌, ◌≢◌, refl, ◌∙◌, ℕ, Bool, true, false, cond, List, [], ◌∷◌, ◌++◌, is_some, pos, ◌==◌, arith}
 use Rattle.std.specs.List.{All, find, list_any, count_by}
 use Rattle.std.proofs.lemmas.List.Elements.{All-nil, All-cons, All-head, All-push, All-tail}
 use Rattle.std.proofs.lemmas.List.Folds.{find-append}
 use Rattle.std.proofs.lemmas.List.Sums.{sum_by-cons}
 use Rattle.std.proofs.lemmas.List.Quantifiers.{all_pairs_push}
 use Rattle.std.proofs.lemmas.Grind.{common_steps}
+use Rattle.tables.specs.Ranges.{is_id}
 use Rattle.tables.specs.View.{Table}
 use Rattle.tables.specs.Tables.{entered, has_room, with_row}
-use Rattle.tables.specs.Keyed.{Keyed, IsId}
+use Rattle.tables.specs.Keyed.{Keyed}
 
 module _ {T : Type 0} (p : T → Bool) where
   -- where none is found, none passes
@@ -30,6 +31,7 @@ module _ {T : Type 0} (p : T → Bool) where
       let rest : count_by p xs ≡ 0 = count_none xs (All-tail (λ x. p x ≡ false) x xs h) in
       sum_by-cons (λ x. cond (p x) 1 0) x xs ∙ grind (arith, first, rest)
 
+  -- where not any passes, none does
   pub none_of_any : (xs : List T) → list_any p xs ≡ false → All (λ x. p x ≡ false) xs
   none_of_any [] e = All-nil (λ x. p x ≡ false)
   none_of_any (x ∷ xs) e =
@@ -38,11 +40,11 @@ module _ {T : Type 0} (p : T → Bool) where
 
 module _ {T : Type 0} (key : T → ℕ) (full : ℕ) where
   -- a row with an id that is new
-  pub keyed_push : (t : Table T) (x : T) → has_room t ≡ true → IsId (key x) → entered key (key x) t.rows ≡ false → Keyed key full t → Keyed key full (with_row t x)
+  pub keyed_push : (t : Table T) (x : T) → has_room t ≡ true → is_id (pos (key x)) ≡ true → entered key (key x) t.rows ≡ false → Keyed key full t → Keyed key full (with_row t x)
   keyed_push t x room id new h = record {
     fits = grind (arith, common_steps);
     bound = h.bound;
-    ids = All-push (λ x. IsId (key x)) t.rows x h.ids id;
+    ids = All-push (λ x. is_id (pos (key x)) ≡ true) t.rows x h.ids id;
     distinct = all_pairs_push (λ x y. key x ≢ key y) t.rows x h.distinct
         (λ k d l e. grind (arith, none_passes (λ y. key y == key x) t.rows new k d l));
   }

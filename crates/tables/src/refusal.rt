@@ -71,7 +71,7 @@ impl Reason {
             Reason::OutsideValues => "a field, code, kind or type outside its values",
             Reason::NotEntered => "an area, party or resource that is not entered",
             Reason::AlreadyEntered => "an id that is already entered",
-            Reason::Misfit => "an area, party or resource of another kind than fits there",
+            Reason::Misfit => "an area, party or resource that does not fit there",
             Reason::Full => "a full table, or no run left",
             Reason::NoTieWeight => "energy of a tie and no interval to share it by",
             Reason::NoDemand => "an offset and no demand to share it by",
