@@ -9,15 +9,15 @@ use Rattle.tables.specs.Refusals.{first_fit}
 use Rattle.tables.specs.Ranges.{as_id, flag}
 use Rattle.tables.proofs.Fits.{none_fits, left_either, id_in_span}
 use Rattle.tables.proofs.Pushed.{find_kept, count_none, none_of_any, keyed_push}
-use Rattle.charges.specs.declared.kinds.AreaKind.{AreaKind}
-use Rattle.charges.specs.declared.kinds.ResourceKind.{ResourceKind}
-use Rattle.charges.specs.declared.party.Party.{Party}
+use Rattle.rows.specs.declared.kinds.AreaKind.{AreaKind}
+use Rattle.rows.specs.declared.kinds.ResourceKind.{ResourceKind}
+use Rattle.rows.specs.declared.party.Party.{Party}
 use Rattle.charges.specs.declared.call.Call.{Call}
 use Rattle.charges.specs.declared.call.Call.TheVariants.{EnterArea, EnterParty, EnterResource}
 use Rattle.charges.specs.declared.hour.Hour.{Hour}
-use Rattle.charges.specs.Kinds.{is_ciso}
+use Rattle.rows.specs.Kinds.{is_ciso}
 use Rattle.charges.specs.Ranges.{most_areas, most_parties, most_resources}
-use Rattle.charges.specs.Rows.{new_area, new_party, new_resource}
+use Rattle.rows.specs.Rows.{new_area, new_party, new_resource}
 use Rattle.charges.specs.Hours.{area_id, party_id, resource_id, area_of, party_of, area_is_ciso, area_is_weim, party_is_of_ciso, any_ciso, any_party_in}
 use Rattle.charges.specs.Calls.{reasons, made_by, left_by}
 use Rattle.charges.specs.Sound.{Sound, Grows, Extends, StepsKeepSound}

@@ -12,8 +12,8 @@ use Rattle.tables.specs.Tables.{has_room, with_row}
 use Rattle.charges.specs.declared.call.Call.{Call}
 use Rattle.charges.specs.declared.call.Call.TheVariants.{EnterArea, EnterParty, EnterResource}
 use Rattle.charges.specs.declared.hour.Hour.{Hour}
-use Rattle.charges.specs.Kinds.{names_ciso}
-use Rattle.charges.specs.Rows.{new_area, new_party, new_resource}
+use Rattle.rows.specs.Kinds.{names_ciso}
+use Rattle.rows.specs.Rows.{new_area, new_party, new_resource}
 use Rattle.charges.specs.Hours.{area_of, party_of, resource_of, area_is_weim, party_is_of_ciso, any_ciso, any_party_in}
 
 -- the reasons for which a call is refused, in the order of their numbers

@@ -3,11 +3,11 @@ use Rattle.std.specs.Prelude.{ℕ, ◌==◌, min, Bool, false, not, List, Option
 use Rattle.std.specs.List.{list_any}
 use Rattle.std.specs.Option.{option_map_or}
 use Rattle.tables.specs.Tables as tables
-use Rattle.charges.specs.declared.area.Area.{Area}
-use Rattle.charges.specs.declared.party.Party.{Party}
-use Rattle.charges.specs.declared.resource.Resource.{Resource}
+use Rattle.rows.specs.declared.area.Area.{Area}
+use Rattle.rows.specs.declared.party.Party.{Party}
+use Rattle.rows.specs.declared.resource.Resource.{Resource}
 use Rattle.charges.specs.declared.hour.Hour.{Hour}
-use Rattle.charges.specs.Kinds.{is_ciso}
+use Rattle.rows.specs.Kinds.{is_ciso}
 use Rattle.charges.specs.Ranges.{most_areas, most_parties, most_resources}
 
 -- the rows' ids

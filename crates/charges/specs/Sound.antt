@@ -5,7 +5,7 @@ use Rattle.tables.specs.Keyed.{Keyed}
 use Rattle.tables.specs.Refusals.{first_fit}
 use Rattle.charges.specs.declared.call.Call.{Call}
 use Rattle.charges.specs.declared.hour.Hour.{Hour}
-use Rattle.charges.specs.Kinds.{is_ciso}
+use Rattle.rows.specs.Kinds.{is_ciso}
 use Rattle.charges.specs.Ranges.{most_areas, most_parties, most_resources}
 use Rattle.charges.specs.Hours.{area_id, party_id, resource_id, area_of, area_is_weim, party_is_of_ciso}
 use Rattle.charges.specs.Calls.{reasons, made_by}

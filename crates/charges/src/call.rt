@@ -2,7 +2,7 @@
 ghost use Rattle.std.specs.Prelude.{◌≡◌};
 ghost use Rattle.charges.specs.Calls.{place_of};
 
-use super::kinds::{AreaKind, ResourceKind};
+use rows::{AreaKind, ResourceKind};
 use tables::Place;
 
 // What a caller says: numbers as they are given, and words read to what they name.

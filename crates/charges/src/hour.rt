@@ -2,16 +2,13 @@
 ghost use Rattle.std.specs.Prelude.{◌≡◌, ◌&&◌, not, IfOk};
 ghost use Rattle.tables.specs.Refusals.{Tested};
 ghost use Rattle.tables.specs.declared.refusal.Reason.TheVariants.{Misfit};
-ghost use Rattle.charges.specs.Kinds.{is_ciso};
+ghost use Rattle.rows.specs.Kinds.{is_ciso};
 ghost use Rattle.charges.specs.Hours.{any_ciso, any_party_in, area_is_ciso, opened};
 ghost use Rattle.charges.specs.Calls.{judgment_of, left_by};
 ghost use Rattle.charges.specs.declared.call.Call.TheVariants.{EnterArea, EnterParty, EnterResource};
 
-use super::area::Area;
 use super::call::Call;
-use super::kinds::{AreaKind, ResourceKind};
-use super::party::Party;
-use super::resource::Resource;
+use rows::{Area, AreaKind, Party, Resource, ResourceKind};
 use std::alloc::{AllocError, Global};
 use tables::{Reason, Table, flag_of, id_of};
 

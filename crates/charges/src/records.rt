@@ -1,17 +1,14 @@
 // The records of an hour. Of every `Records` what `Sound` says is true.
 ghost use Rattle.std.specs.Prelude.{◌≡◌, IfOk};
-ghost use Rattle.charges.specs.Kinds.{area_kind, resource_kind};
+ghost use Rattle.rows.specs.Kinds.{area_kind, resource_kind};
 ghost use Rattle.charges.specs.Hours.{opened};
 ghost use Rattle.charges.specs.Calls.{answer_to, left_by};
 ghost use Rattle.charges.specs.Sound.{Sound, Step, Grows, StepsKeepSound};
 ghost use Rattle.charges.specs.declared.call.Call.TheVariants.{EnterArea, EnterParty, EnterResource};
 
-use super::area::Area;
 use super::call::Call;
 use super::hour::Hour;
-use super::kinds::{AreaKind, ResourceKind};
-use super::party::Party;
-use super::resource::Resource;
+use rows::{Area, AreaKind, Party, Resource, ResourceKind};
 use std::alloc::{AllocError, Global};
 use std::marker::Model;
 use tables::{Part, Refusal};

@@ -1,6 +1,6 @@
 -- The calls that the sample entries make. Assumes nothing.
 use Rattle.std.specs.Prelude.{pos}
-use Rattle.charges.specs.Kinds.{area_kind, resource_kind}
+use Rattle.rows.specs.Kinds.{area_kind, resource_kind}
 use Rattle.charges.specs.declared.call.Call.{Call}
 use Rattle.charges.specs.declared.call.Call.TheVariants.{EnterArea, EnterParty, EnterResource}
 use Rattle.hourbook.specs.declared.entering.Entry.{Entry}

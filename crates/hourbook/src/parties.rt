@@ -1,7 +1,7 @@
 // The parties that take money.
 ghost use Rattle.std.specs.Prelude.{refl};
 
-use charges::Cents;
+use rows::Cents;
 use sharing::Recipient;
 
 // A party's demand, by which pools are shared, and what is due to it.

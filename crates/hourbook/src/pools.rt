@@ -3,7 +3,7 @@ ghost use Rattle.std.specs.Prelude.{◌≡◌, map, IfOk};
 ghost use Rattle.hourbook.specs.Parties.{entered};
 
 use super::parties::Party;
-use charges::Cents;
+use rows::Cents;
 use std::alloc::{AllocError, Global};
 
 // A pool, and the demands by which it is shared.

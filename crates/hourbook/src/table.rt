@@ -1,6 +1,6 @@
 // A table of shared pools, whose layout is held to the stored output.
 use super::parties::Party;
-use charges::Cents;
+use rows::Cents;
 use sharing::{Quantity, Recipient, SharingFault, SharingRule, share_out};
 use std::io::Write;
 use std::{fmt, io};

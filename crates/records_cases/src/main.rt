@@ -2,7 +2,8 @@
 #![tactic(auto)]
 
 use anyhow::{Context, bail};
-use charges::{AreaKind, Records, Resource, ResourceKind};
+use charges::Records;
+use rows::{AreaKind, Resource, ResourceKind};
 use std::alloc::Global;
 use std::array;
 use std::io::{self, BufRead, BufReader, BufWriter, Write};

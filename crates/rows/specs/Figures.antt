@@ -1,11 +1,11 @@
 -- The figures that stand where none was posted. Assumes nothing.
 use Rattle.std.specs.Prelude.{pos}
 use Rattle.std.proofs.Common.{lit≤}
-use Rattle.charges.specs.declared.figures.Price.{Price}
-use Rattle.charges.specs.declared.figures.BidCap.{BidCap}
-use Rattle.charges.specs.declared.figures.Energy.{Energy}
-use Rattle.charges.specs.declared.figures.Volume.{Volume}
-use Rattle.charges.specs.declared.figures.GivenAmount.{GivenAmount}
+use Rattle.rows.specs.declared.figures.Price.{Price}
+use Rattle.rows.specs.declared.figures.BidCap.{BidCap}
+use Rattle.rows.specs.declared.figures.Energy.{Energy}
+use Rattle.rows.specs.declared.figures.Volume.{Volume}
+use Rattle.rows.specs.declared.figures.GivenAmount.{GivenAmount}
 
 -- 0 is in every range
 abbrev pub zero_price : Price

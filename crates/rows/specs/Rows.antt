@@ -4,19 +4,19 @@ use Rattle.deemed.specs.declared.quantities.Units.{Units}
 use Rattle.deemed.specs.declared.tag.Tag.{Tag}
 use Rattle.deemed.specs.Ranges.{hour_length}
 use Rattle.deemed.specs.Tags.{no_tag}
-use Rattle.charges.specs.declared.figures.Volume.{Volume}
-use Rattle.charges.specs.declared.kinds.AreaKind.{AreaKind}
-use Rattle.charges.specs.declared.kinds.ResourceKind.{ResourceKind}
-use Rattle.charges.specs.declared.area.Election.{Election}
-use Rattle.charges.specs.declared.area.SufficiencyTest.{SufficiencyTest}
-use Rattle.charges.specs.declared.area.Transfer.{Transfer}
-use Rattle.charges.specs.declared.area.Area.{Area}
-use Rattle.charges.specs.declared.party.GivenAmounts.{GivenAmounts}
-use Rattle.charges.specs.declared.party.Party.{Party}
-use Rattle.charges.specs.declared.resource.EnergyRecord.{EnergyRecord}
-use Rattle.charges.specs.declared.resource.Resource.{Resource}
-use Rattle.charges.specs.Ranges.{quarters}
-use Rattle.charges.specs.Figures.{zero_price, zero_cap, zero_energy, zero_volume, zero_given}
+use Rattle.rows.specs.declared.figures.Volume.{Volume}
+use Rattle.rows.specs.declared.kinds.AreaKind.{AreaKind}
+use Rattle.rows.specs.declared.kinds.ResourceKind.{ResourceKind}
+use Rattle.rows.specs.declared.area.Election.{Election}
+use Rattle.rows.specs.declared.area.SufficiencyTest.{SufficiencyTest}
+use Rattle.rows.specs.declared.area.Transfer.{Transfer}
+use Rattle.rows.specs.declared.area.Area.{Area}
+use Rattle.rows.specs.declared.party.GivenAmounts.{GivenAmounts}
+use Rattle.rows.specs.declared.party.Party.{Party}
+use Rattle.rows.specs.declared.resource.EnergyRecord.{EnergyRecord}
+use Rattle.rows.specs.declared.resource.Resource.{Resource}
+use Rattle.rows.specs.Ranges.{quarters}
+use Rattle.rows.specs.Figures.{zero_price, zero_cap, zero_energy, zero_volume, zero_given}
 
 -- an area is opted out
 unfoldable pub no_election : Election

@@ -1,6 +1,6 @@
 // Quantities, and the figures that records hold: each a quantity inside its range.
 ghost use Rattle.std.specs.Prelude.{◌≤◌, ◌≤ℤ◌, pos, unsigned_abs, refl};
-ghost use Rattle.charges.specs.Ranges.{most_price, most_energy, most_given};
+ghost use Rattle.rows.specs.Ranges.{most_price, most_energy, most_given};
 
 use deemed::Units;
 use sharing::Quantity;
@@ -69,7 +69,7 @@ pub struct GivenAmount {
 
 impl Price {
     ghost use Rattle.std.specs.Prelude.{◌≡◌};
-    ghost use Rattle.charges.specs.Figures.{zero_price};
+    ghost use Rattle.rows.specs.Figures.{zero_price};
 
     pub(crate) fn zero() -> Price
         ensures { result ≡ zero_price }
@@ -82,7 +82,7 @@ impl Price {
 
 impl BidCap {
     ghost use Rattle.std.specs.Prelude.{◌≡◌};
-    ghost use Rattle.charges.specs.Figures.{zero_cap};
+    ghost use Rattle.rows.specs.Figures.{zero_cap};
 
     pub(crate) fn zero() -> BidCap
         ensures { result ≡ zero_cap }
@@ -95,7 +95,7 @@ impl BidCap {
 
 impl Energy {
     ghost use Rattle.std.specs.Prelude.{◌≡◌};
-    ghost use Rattle.charges.specs.Figures.{zero_energy};
+    ghost use Rattle.rows.specs.Figures.{zero_energy};
 
     pub(crate) fn zero() -> Energy
         ensures { result ≡ zero_energy }
@@ -106,7 +106,7 @@ impl Energy {
 
 impl Volume {
     ghost use Rattle.std.specs.Prelude.{◌≡◌};
-    ghost use Rattle.charges.specs.Figures.{zero_volume};
+    ghost use Rattle.rows.specs.Figures.{zero_volume};
 
     pub(crate) fn zero() -> Volume
         ensures { result ≡ zero_volume }
@@ -117,7 +117,7 @@ impl Volume {
 
 impl GivenAmount {
     ghost use Rattle.std.specs.Prelude.{◌≡◌};
-    ghost use Rattle.charges.specs.Figures.{zero_given};
+    ghost use Rattle.rows.specs.Figures.{zero_given};
 
     pub(crate) fn zero() -> GivenAmount
         ensures { result ≡ zero_given }

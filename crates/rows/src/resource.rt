@@ -1,6 +1,6 @@
 // A resource, with the energy, the tag and the deemed energy of each of its intervals.
 ghost use Rattle.std.specs.Prelude.{◌≡◌};
-ghost use Rattle.charges.specs.Rows.{no_energy, new_resource};
+ghost use Rattle.rows.specs.Rows.{no_energy, new_resource};
 
 use super::dispatch::DispatchType;
 use super::figures::{Energy, Price};
@@ -66,7 +66,7 @@ impl EnergyRecord {
 impl Resource {
     // A resource as it is entered, for which nothing is posted yet.
     #[tactic(auto, unfolding(crate::specs::Rows::no_energies, crate::specs::Rows::no_tags, crate::specs::Rows::nothing_deemed))]
-    pub(crate) fn new(id: u16, owner: u16, kind: ResourceKind, net: bool, exempt: bool) -> Resource
+    pub fn new(id: u16, owner: u16, kind: ResourceKind, net: bool, exempt: bool) -> Resource
         ensures { result ≡ new_resource id owner kind net exempt }
     {
         Resource {

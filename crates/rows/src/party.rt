@@ -1,6 +1,6 @@
 // A party, with its demand and the money given for it.
 ghost use Rattle.std.specs.Prelude.{◌≡◌};
-ghost use Rattle.charges.specs.Rows.{nothing_given, new_party};
+ghost use Rattle.rows.specs.Rows.{nothing_given, new_party};
 
 use super::figures::{GivenAmount, Volume};
 use deemed::INTERVALS;
@@ -39,7 +39,7 @@ impl GivenAmounts {
 impl Party {
     // A party as it is entered, for which nothing is posted yet.
     #[tactic(auto, unfolding(crate::specs::Rows::no_demand))]
-    pub(crate) fn new(id: u16, area: u16) -> Party
+    pub fn new(id: u16, area: u16) -> Party
         ensures { result ≡ new_party id area }
     {
         Party {

@@ -3,10 +3,10 @@ use Rattle.std.specs.Prelude.{ℕ, Bool, true, false, List, [], ◌∷◌, Optio
 use Rattle.std.specs.List.{find}
 use Rattle.std.specs.Option.{option_map_or}
 use Rattle.std.specs.Str.{bytes_eq}
-use Rattle.charges.specs.declared.kinds.AreaKind.{AreaKind}
-use Rattle.charges.specs.declared.kinds.AreaKind.TheVariants.{Ciso, Weim}
-use Rattle.charges.specs.declared.kinds.ResourceKind.{ResourceKind}
-use Rattle.charges.specs.declared.kinds.ResourceKind.TheVariants.{Plain, StaticTie, DynamicTie}
+use Rattle.rows.specs.declared.kinds.AreaKind.{AreaKind}
+use Rattle.rows.specs.declared.kinds.AreaKind.TheVariants.{Ciso, Weim}
+use Rattle.rows.specs.declared.kinds.ResourceKind.{ResourceKind}
+use Rattle.rows.specs.declared.kinds.ResourceKind.TheVariants.{Plain, StaticTie, DynamicTie}
 
 abbrev pub area_word : AreaKind → List ℕ
 area_word Ciso = codes "C"

@@ -1,6 +1,6 @@
 // An area, with its election of assistance energy transfers, its sufficiency tests and its transfers.
 ghost use Rattle.std.specs.Prelude.{◌≡◌};
-ghost use Rattle.charges.specs.Rows.{no_election, no_test, no_transfer, new_area};
+ghost use Rattle.rows.specs.Rows.{no_election, no_test, no_transfer, new_area};
 
 use super::figures::{BidCap, Volume};
 use super::kinds::AreaKind;
@@ -85,7 +85,7 @@ impl Transfer {
 impl Area {
     // An area as it is entered, for which nothing is posted yet.
     #[tactic(auto, unfolding(crate::specs::Rows::no_tests, crate::specs::Rows::no_transfers))]
-    pub(crate) fn new(id: u16, kind: AreaKind) -> Area
+    pub fn new(id: u16, kind: AreaKind) -> Area
         ensures { result ≡ new_area id kind }
     {
         Area {

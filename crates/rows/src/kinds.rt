@@ -1,6 +1,6 @@
 // The kinds of areas and resources, and the words that name them.
 ghost use Rattle.std.specs.Prelude.{◌≡◌};
-ghost use Rattle.charges.specs.Kinds.{area_kind, is_ciso, resource_kind};
+ghost use Rattle.rows.specs.Kinds.{area_kind, is_ciso, resource_kind};
 
 #[derive(Clone, Copy, PartialEq, Eq, Debug)]
 pub enum AreaKind {

@@ -1,0 +1,4 @@
+pub mod Ranges
+pub mod Figures
+pub mod Kinds
+pub mod Rows

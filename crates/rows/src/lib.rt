@@ -1,0 +1,16 @@
+// The rows of an hour's records: areas, parties and resources, with what is posted for each.
+#![tactic(auto)]
+
+mod area;
+mod dispatch;
+mod figures;
+mod kinds;
+mod party;
+mod resource;
+
+pub use area::{Area, Election, QUARTERS, SufficiencyTest, Transfer};
+pub use dispatch::DispatchType;
+pub use figures::{BidCap, Cents, Energy, GivenAmount, Price, PriceSteps, Volume};
+pub use kinds::{AreaKind, ResourceKind};
+pub use party::{GivenAmounts, Party};
+pub use resource::{EnergyRecord, Resource};
