@@ -3,3 +3,4 @@ pub mod Ranges
 pub mod View
 pub mod Tables
 pub mod Keyed
+pub mod Lends

@@ -1,5 +1,6 @@
 -- Rows by their ids, and what is done with a table. Assumes nothing.
-use Rattle.std.specs.Prelude.{◌≡◌, ℕ, ◌==◌, nat_lt, Bool, true, false, List, [], ◌∷◌, ◌++◌, length, Option, is_some, find, position, Result, Ok, Err}
+use Rattle.std.specs.Prelude.{◌≡◌, ℕ, ◌==◌, nat_lt, Bool, true, false, List, [], ◌∷◌, ◌++◌, length, Option, is_some, find, position, slice_set, Result, Ok, Err}
+use Rattle.std.specs.Option.{option_map_or}
 use Rattle.tables.specs.View.{Table}
 use Rattle.tables.specs.declared.refusal.Reason.{Reason}
 use Rattle.tables.specs.declared.refusal.Reason.TheVariants.{Full}
@@ -27,6 +28,14 @@ module _ {T : Type 0} where
   -- one row more
   abbrev pub with_row : Table T → T → Table T
   with_row t x = record t { rows = t.rows ++ x ∷ [] }
+
+  -- another row in the place of the first with an id
+  abbrev pub with_replaced : (T → ℕ) → ℕ → Table T → T → Table T
+  with_replaced key id t x = record t { rows = option_map_or (λ i. slice_set t.rows i x) (place key id t.rows) t.rows }
+
+  -- the first row with an id is changed, and no other
+  abbrev pub changed : (T → ℕ) → ℕ → (T → T) → Table T → Table T
+  changed key id change t = option_map_or (λ x. with_replaced key id t (change x)) (found key id t.rows) t
 
   -- a row is added where there is room, and else the table is as it was
   abbrev pub TriedToAdd : T → Table T → Table T → Result (Unit {0}) Reason → Type 0

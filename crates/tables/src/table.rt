@@ -67,6 +67,9 @@ impl<T> Table<T> {
 }
 
 impl<T: HasId> Table<T> {
+    ghost use Rattle.std.specs.Borrow.{sem};
+    ghost use Rattle.tables.specs.Lends.{lends_found};
+
     // The place of the row with this id, from 0.
     pub fn find(&self, id: u16) -> Option<usize>
         ensures { result ≡ place T.key id self.now.rows }
@@ -81,6 +84,18 @@ impl<T: HasId> Table<T> {
     {
         match self.find(id) {
             Some(place) => Ok(&self.rows[place]),
+            None => Err(Reason::NotEntered),
+        }
+    }
+
+    // The same row, to be written.
+    #[tactic(auto, using(crate::proofs::Places::find_there, crate::proofs::Places::find_nowhere))]
+    pub fn row_mut(&mut self, id: u16) -> Result<&mut T, Reason>
+        ensures* writes_back { sem 𝓛 (lends_found T.row T.key self.entry id result) }
+        ensures value { MatchResult result (λ x. found T.key id self.old.rows ≡ Some x.now) (λ r. (found T.key id self.old.rows ≡ None) × (r ≡ NotEntered)) }
+    {
+        match self.find(id) {
+            Some(place) => Ok(&mut self.rows[place]),
             None => Err(Reason::NotEntered),
         }
     }
