@@ -1,12 +1,11 @@
 -- The words of the kinds. Assumes nothing.
 use Rattle.std.specs.Prelude.{ℕ, Bool, true, false, List, [], ◌∷◌, Option, codes}
-use Rattle.std.specs.List.{find}
 use Rattle.std.specs.Option.{option_map_or}
-use Rattle.std.specs.Str.{bytes_eq}
 use Rattle.rows.specs.declared.kinds.AreaKind.{AreaKind}
 use Rattle.rows.specs.declared.kinds.AreaKind.TheVariants.{Ciso, Weim}
 use Rattle.rows.specs.declared.kinds.ResourceKind.{ResourceKind}
 use Rattle.rows.specs.declared.kinds.ResourceKind.TheVariants.{Plain, StaticTie, DynamicTie}
+use Rattle.rows.specs.Named.{named}
 
 abbrev pub area_word : AreaKind → List ℕ
 area_word Ciso = codes "C"
@@ -16,10 +15,6 @@ abbrev pub resource_word : ResourceKind → List ℕ
 resource_word Plain = codes "P"
 resource_word StaticTie = codes "S"
 resource_word DynamicTie = codes "D"
-
--- the one of some kinds whose word it is
-abbrev pub named : {K : Type 0} → (K → List ℕ) → List K → List ℕ → Option K
-named word_of kinds word = find (λ k. bytes_eq (word_of k) word) kinds
 
 abbrev pub area_kind : List ℕ → Option AreaKind
 area_kind word = named area_word (Ciso ∷ Weim ∷ []) word

@@ -16,21 +16,21 @@ use Rattle.rows.specs.declared.party.Party.{Party}
 use Rattle.rows.specs.declared.resource.EnergyRecord.{EnergyRecord}
 use Rattle.rows.specs.declared.resource.Resource.{Resource}
 use Rattle.rows.specs.Ranges.{quarters}
-use Rattle.rows.specs.Figures.{zero_price, zero_cap, zero_energy, zero_volume, zero_given}
+use Rattle.rows.specs.Figures.{as_price, as_cap, as_energy, as_volume, as_given}
 
 -- an area is opted out
 unfoldable pub no_election : Election
-no_election = record { opted_in = false; cap = zero_cap; up = zero_volume; nopay = zero_volume }
+no_election = record { opted_in = false; cap = as_cap (pos 0); up = as_volume (pos 0); nopay = as_volume (pos 0) }
 
 abbrev pub no_test : SufficiencyTest
-no_test = record { capacity = zero_volume; ramp = zero_volume; nopay = zero_volume }
+no_test = record { capacity = as_volume (pos 0); ramp = as_volume (pos 0); nopay = as_volume (pos 0) }
 
 -- in every quarter
 unfoldable pub no_tests : List SufficiencyTest
 no_tests = replicate quarters no_test
 
 abbrev pub no_transfer : Transfer
-no_transfer = record { to = zero_volume; base_to = zero_volume; from = zero_volume; base_from = zero_volume }
+no_transfer = record { to = as_volume (pos 0); base_to = as_volume (pos 0); from = as_volume (pos 0); base_from = as_volume (pos 0) }
 
 -- in every interval, as what follows
 unfoldable pub no_transfers : List Transfer
@@ -40,13 +40,13 @@ abbrev pub new_area : ℕ → AreaKind → Area
 new_area id kind = record { id = id; kind = kind; election = no_election; tests = no_tests; transfers = no_transfers }
 
 unfoldable pub no_demand : List Volume
-no_demand = replicate hour_length zero_volume
+no_demand = replicate hour_length (as_volume (pos 0))
 
 unfoldable pub nothing_given : GivenAmounts
 nothing_given = record {
-  pass_through = replicate hour_length zero_given;
-  cc_6474 = replicate hour_length zero_given;
-  cc_6475 = replicate hour_length zero_given;
+  pass_through = replicate hour_length (as_given (pos 0));
+  cc_6474 = replicate hour_length (as_given (pos 0));
+  cc_6475 = replicate hour_length (as_given (pos 0));
 }
 
 abbrev pub new_party : ℕ → ℕ → Party
@@ -55,16 +55,16 @@ new_party id area = record { id = id; area = area; demand = no_demand; given = n
 -- no exceptional dispatch
 abbrev pub no_energy : EnergyRecord
 no_energy = record {
-  lmp = zero_price;
-  mss = zero_price;
-  resprice = zero_price;
-  edprice = zero_price;
-  iie = zero_energy;
-  oa = zero_energy;
-  mssiie = zero_energy;
-  res = zero_energy;
-  above = zero_energy;
-  edqty = zero_energy;
+  lmp = as_price (pos 0);
+  mss = as_price (pos 0);
+  resprice = as_price (pos 0);
+  edprice = as_price (pos 0);
+  iie = as_energy (pos 0);
+  oa = as_energy (pos 0);
+  mssiie = as_energy (pos 0);
+  res = as_energy (pos 0);
+  above = as_energy (pos 0);
+  edqty = as_energy (pos 0);
   resflag = false;
   ed = None;
 }

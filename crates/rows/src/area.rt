@@ -4,11 +4,9 @@ ghost use Rattle.rows.specs.Rows.{no_election, no_test, no_transfer, new_area};
 
 use super::figures::{BidCap, Volume};
 use super::kinds::AreaKind;
+use super::slot::QUARTERS;
 use deemed::INTERVALS;
 use tables::HasId;
-
-// The quarters of an hour, each of three intervals.
-pub const QUARTERS: usize = 4;
 
 #[derive(Clone, Copy, PartialEq, Eq, Debug)]
 pub struct Election {

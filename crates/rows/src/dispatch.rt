@@ -1,6 +1,10 @@
-// The types of exceptional dispatch.
+// The types of exceptional dispatch, and the words that name them.
+ghost use Rattle.std.specs.Prelude.{◌≡◌, bytes_eq, option_map};
+ghost use Rattle.rows.specs.Dispatch.{dispatch_type, dispatch_word, type_word};
+
 #[derive(Clone, Copy, PartialEq, Eq, Debug)]
 pub enum DispatchType {
+    // of the first class
     SysEmr,
     SysEmr1,
     Temr,
@@ -21,7 +25,108 @@ pub enum DispatchType {
     RmrT,
     Slic,
     Other,
+    // of the second class
     NonTMod,
     AsTest,
     Test,
+}
+
+// What a post says of the dispatch type.
+#[derive(Clone, Copy, PartialEq, Eq, Debug)]
+pub enum DispatchWord {
+    Absent,
+    Named(DispatchType),
+    // a word that names no type
+    Unknown,
+}
+
+// Whether a word is a name.
+fn same(word: &[u8], name: &[u8]) -> bool
+    ensures { result ≡ bytes_eq name.now word.now }
+{
+    word == name
+}
+
+impl DispatchType {
+    pub const ALL: [DispatchType; 23] = [
+        DispatchType::SysEmr,
+        DispatchType::SysEmr1,
+        DispatchType::Temr,
+        DispatchType::TModel,
+        DispatchType::TModel1,
+        DispatchType::TModel2,
+        DispatchType::TModel3,
+        DispatchType::TModel4,
+        DispatchType::TModel5,
+        DispatchType::TModel6,
+        DispatchType::TModel7,
+        DispatchType::TModel8,
+        DispatchType::TModel9,
+        DispatchType::TorEtc,
+        DispatchType::TorEtc1,
+        DispatchType::RmrR,
+        DispatchType::RmrS,
+        DispatchType::RmrT,
+        DispatchType::Slic,
+        DispatchType::Other,
+        DispatchType::NonTMod,
+        DispatchType::AsTest,
+        DispatchType::Test,
+    ];
+
+    // The word that names the type.
+    pub fn name(self) -> &'static [u8]
+        ensures { result.now ≡ type_word self }
+    {
+        match self {
+            DispatchType::SysEmr => b"SYSEMR",
+            DispatchType::SysEmr1 => b"SYSEMR1",
+            DispatchType::Temr => b"TEMR",
+            DispatchType::TModel => b"TMODEL",
+            DispatchType::TModel1 => b"TMODEL1",
+            DispatchType::TModel2 => b"TMODEL2",
+            DispatchType::TModel3 => b"TMODEL3",
+            DispatchType::TModel4 => b"TMODEL4",
+            DispatchType::TModel5 => b"TMODEL5",
+            DispatchType::TModel6 => b"TMODEL6",
+            DispatchType::TModel7 => b"TMODEL7",
+            DispatchType::TModel8 => b"TMODEL8",
+            DispatchType::TModel9 => b"TMODEL9",
+            DispatchType::TorEtc => b"TORETC",
+            DispatchType::TorEtc1 => b"TORETC1",
+            DispatchType::RmrR => b"RMRR",
+            DispatchType::RmrS => b"RMRS",
+            DispatchType::RmrT => b"RMRT",
+            DispatchType::Slic => b"SLIC",
+            DispatchType::Other => b"OTHER",
+            DispatchType::NonTMod => b"NONTMOD",
+            DispatchType::AsTest => b"ASTEST",
+            DispatchType::Test => b"TEST",
+        }
+    }
+
+    // The type that a word names.
+    pub fn named(word: &[u8]) -> Option<DispatchType>
+        ensures { result ≡ dispatch_type word.now }
+    {
+        DispatchType::ALL
+            .iter()
+            .copied()
+            .find(|kind| same(word, kind.name()))
+    }
+}
+
+impl DispatchWord {
+    // What a word says, where there is one.
+    pub fn read(word: Option<&[u8]>) -> DispatchWord
+        ensures { result ≡ dispatch_word (option_map (λ w. w.now) word.entry) }
+    {
+        let Some(word) = word else {
+            return DispatchWord::Absent;
+        };
+        match DispatchType::named(word) {
+            Some(kind) => DispatchWord::Named(kind),
+            None => DispatchWord::Unknown,
+        }
+    }
 }

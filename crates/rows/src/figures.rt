@@ -4,6 +4,14 @@ ghost use Rattle.rows.specs.Ranges.{most_price, most_energy, most_given};
 
 use deemed::Units;
 use sharing::Quantity;
+use tables::{Reason, ranged};
+
+// The largest figures. The smallest are these of the other sign, or 0.
+pub const MOST_PRICE: i64 = 500_000_000;
+
+pub const MOST_ENERGY: i64 = 10_000_000;
+
+pub const MOST_GIVEN: i64 = 1_000_000_000;
 
 // Money.
 #[derive(Clone, Copy, PartialEq, Eq, Debug)]
@@ -68,11 +76,25 @@ pub struct GivenAmount {
 }
 
 impl Price {
-    ghost use Rattle.std.specs.Prelude.{◌≡◌};
-    ghost use Rattle.rows.specs.Figures.{zero_price};
+    ghost use Rattle.std.specs.Prelude.{◌≡◌, pos};
+    ghost use Rattle.tables.specs.Refusals.{Tested};
+    ghost use Rattle.tables.specs.declared.refusal.Reason.TheVariants.{OutsideValues};
+    ghost use Rattle.rows.specs.Figures.{is_price, as_price};
 
+    // The price of so many steps.
+    #[tactic(auto, unfolding(crate::specs::Figures::as_price, tables::specs::Ranges::in_range))]
+    pub fn of(steps: i64) -> Result<Price, Reason>
+        ensures { Tested (is_price steps) (as_price steps) OutsideValues result }
+    {
+        let steps = ranged(-MOST_PRICE, MOST_PRICE, steps, Reason::OutsideValues)?;
+        Ok(Price {
+            steps: PriceSteps(steps),
+        })
+    }
+
+    #[tactic(auto, unfolding(crate::specs::Figures::as_price))]
     pub(crate) fn zero() -> Price
-        ensures { result ≡ zero_price }
+        ensures { result ≡ as_price (pos 0) }
     {
         Price {
             steps: PriceSteps(0),
@@ -81,11 +103,25 @@ impl Price {
 }
 
 impl BidCap {
-    ghost use Rattle.std.specs.Prelude.{◌≡◌};
-    ghost use Rattle.rows.specs.Figures.{zero_cap};
+    ghost use Rattle.std.specs.Prelude.{◌≡◌, pos};
+    ghost use Rattle.tables.specs.Refusals.{Tested};
+    ghost use Rattle.tables.specs.declared.refusal.Reason.TheVariants.{OutsideValues};
+    ghost use Rattle.rows.specs.Figures.{is_cap, as_cap};
 
+    // The bid cap of so many steps.
+    #[tactic(auto, unfolding(crate::specs::Figures::as_cap, tables::specs::Ranges::in_range))]
+    pub fn of(steps: i64) -> Result<BidCap, Reason>
+        ensures { Tested (is_cap steps) (as_cap steps) OutsideValues result }
+    {
+        let steps = ranged(0, MOST_PRICE, steps, Reason::OutsideValues)?;
+        Ok(BidCap {
+            steps: PriceSteps(steps),
+        })
+    }
+
+    #[tactic(auto, unfolding(crate::specs::Figures::as_cap))]
     pub(crate) fn zero() -> BidCap
-        ensures { result ≡ zero_cap }
+        ensures { result ≡ as_cap (pos 0) }
     {
         BidCap {
             steps: PriceSteps(0),
@@ -94,33 +130,75 @@ impl BidCap {
 }
 
 impl Energy {
-    ghost use Rattle.std.specs.Prelude.{◌≡◌};
-    ghost use Rattle.rows.specs.Figures.{zero_energy};
+    ghost use Rattle.std.specs.Prelude.{◌≡◌, pos};
+    ghost use Rattle.tables.specs.Refusals.{Tested};
+    ghost use Rattle.tables.specs.declared.refusal.Reason.TheVariants.{OutsideValues};
+    ghost use Rattle.rows.specs.Figures.{is_energy, as_energy};
 
+    // The energy of so many units.
+    #[tactic(auto, unfolding(crate::specs::Figures::as_energy, tables::specs::Ranges::in_range))]
+    pub fn of(units: i64) -> Result<Energy, Reason>
+        ensures { Tested (is_energy units) (as_energy units) OutsideValues result }
+    {
+        let units = ranged(-MOST_ENERGY, MOST_ENERGY, units, Reason::OutsideValues)?;
+        Ok(Energy {
+            units: Units(units),
+        })
+    }
+
+    #[tactic(auto, unfolding(crate::specs::Figures::as_energy))]
     pub(crate) fn zero() -> Energy
-        ensures { result ≡ zero_energy }
+        ensures { result ≡ as_energy (pos 0) }
     {
         Energy { units: Units(0) }
     }
 }
 
 impl Volume {
-    ghost use Rattle.std.specs.Prelude.{◌≡◌};
-    ghost use Rattle.rows.specs.Figures.{zero_volume};
+    ghost use Rattle.std.specs.Prelude.{◌≡◌, pos};
+    ghost use Rattle.tables.specs.Refusals.{Tested};
+    ghost use Rattle.tables.specs.declared.refusal.Reason.TheVariants.{OutsideValues};
+    ghost use Rattle.rows.specs.Figures.{is_volume, as_volume};
 
+    // The energy of so many units.
+    #[tactic(auto, unfolding(crate::specs::Figures::as_volume, tables::specs::Ranges::in_range))]
+    pub fn of(units: i64) -> Result<Volume, Reason>
+        ensures { Tested (is_volume units) (as_volume units) OutsideValues result }
+    {
+        let units = ranged(0, MOST_ENERGY, units, Reason::OutsideValues)?;
+        Ok(Volume {
+            units: Units(units),
+        })
+    }
+
+    #[tactic(auto, unfolding(crate::specs::Figures::as_volume))]
     pub(crate) fn zero() -> Volume
-        ensures { result ≡ zero_volume }
+        ensures { result ≡ as_volume (pos 0) }
     {
         Volume { units: Units(0) }
     }
 }
 
 impl GivenAmount {
-    ghost use Rattle.std.specs.Prelude.{◌≡◌};
-    ghost use Rattle.rows.specs.Figures.{zero_given};
+    ghost use Rattle.std.specs.Prelude.{◌≡◌, pos};
+    ghost use Rattle.tables.specs.Refusals.{Tested};
+    ghost use Rattle.tables.specs.declared.refusal.Reason.TheVariants.{OutsideValues};
+    ghost use Rattle.rows.specs.Figures.{is_given, as_given};
 
+    // The amount of so many cents.
+    #[tactic(auto, unfolding(crate::specs::Figures::as_given, tables::specs::Ranges::in_range))]
+    pub fn of(cents: i64) -> Result<GivenAmount, Reason>
+        ensures { Tested (is_given cents) (as_given cents) OutsideValues result }
+    {
+        let cents = ranged(-MOST_GIVEN, MOST_GIVEN, cents, Reason::OutsideValues)?;
+        Ok(GivenAmount {
+            cents: Cents(cents),
+        })
+    }
+
+    #[tactic(auto, unfolding(crate::specs::Figures::as_given))]
     pub(crate) fn zero() -> GivenAmount
-        ensures { result ≡ zero_given }
+        ensures { result ≡ as_given (pos 0) }
     {
         GivenAmount { cents: Cents(0) }
     }

@@ -7,10 +7,12 @@ mod figures;
 mod kinds;
 mod party;
 mod resource;
+mod slot;
 
-pub use area::{Area, Election, QUARTERS, SufficiencyTest, Transfer};
-pub use dispatch::DispatchType;
+pub use area::{Area, Election, SufficiencyTest, Transfer};
+pub use dispatch::{DispatchType, DispatchWord};
 pub use figures::{BidCap, Cents, Energy, GivenAmount, Price, PriceSteps, Volume};
 pub use kinds::{AreaKind, ResourceKind};
 pub use party::{GivenAmounts, Party};
 pub use resource::{EnergyRecord, Resource};
+pub use slot::{Interval, QUARTERS, Quarter, Slot};

@@ -1,0 +1,19 @@
+-- The intervals and the quarters of an hour, by their numbers. Assumes nothing.
+use Rattle.std.specs.Prelude.{◌≡◌, ◌-◌, ℕ, Bool, true, false, ℤ, pos, Result, Ok, Err, unsigned_abs}
+use Rattle.tables.specs.Ranges.{in_range}
+use Rattle.tables.specs.declared.refusal.Reason.{Reason}
+use Rattle.tables.specs.declared.refusal.Reason.TheVariants.{OutsideSpan}
+use Rattle.rows.specs.declared.slot.Slot.{Slot}
+
+-- whether a number is that of one of so many
+abbrev pub is_slot : ℕ → ℤ → Bool
+is_slot count z = in_range (pos 1) (pos count) z
+
+-- its place, from 0
+abbrev pub slot_place : ℤ → ℕ
+slot_place z = unsigned_abs z - 1
+
+-- the slot with this number, where there is one
+abbrev pub Numbered : (count : ℕ) → ℤ → Result (Slot count) Reason → Type 0
+Numbered count z (Ok s) = (is_slot count z ≡ true) × (s.place ≡ slot_place z)
+Numbered count z (Err r) = (is_slot count z ≡ false) × (r ≡ OutsideSpan)
