@@ -1,6 +1,6 @@
 -- What the tags of a tie's hour schedule, and what its intervals weigh. Assumes nothing.
-use Rattle.std.specs.Prelude.{◌≡◌, ℕ, ◌<◌, ◌≤◌, max, Bool, true, false, cond, not, ◌&&◌, List, map, ℤ, pos, Some, None, Option, ◌≢◌, nat_lt, unsigned_abs}
-use Rattle.std.proofs.Common.{lit≤}
+use Rattle.std.specs.Prelude.{◌≡◌, ℕ, ◌<◌, ◌≤◌, nat_le, max, Bool, true, false, cond, not, ◌&&◌, List, map, ℤ, pos, Some, None, Option, ◌≢◌, nat_lt, unsigned_abs}
+use Rattle.std.proofs.Common.{lit≤, arith}
 use Rattle.sharing.specs.Laws.{total}
 use Rattle.deemed.specs.declared.quantities.Units.{Units}
 use Rattle.deemed.specs.declared.quantities.TelemetrySteps.{TelemetrySteps}
@@ -16,6 +16,29 @@ pub record Ranged (kw : Units) (telemetry : TelemetrySteps) : Type 0 where
 abbrev pub Tagged : Units → TelemetrySteps → Bool → Option Tag → Type 0
 Tagged kw telemetry curtailed (Some t) = (t.kw ≡ kw) × (t.telemetry ≡ telemetry) × (t.curtailed ≡ curtailed)
 Tagged kw telemetry curtailed None = Ranged kw telemetry → ⊥
+
+-- figures that are in range, and 0 for any other
+abbrev pub kw_or_0 : Units → ℤ
+kw_or_0 kw = cond (nat_le (unsigned_abs kw.0) most_kw) kw.0 (pos 0)
+
+abbrev pub telemetry_or_0 : TelemetrySteps → ℕ
+telemetry_or_0 telemetry = cond (nat_le telemetry.0 most_telemetry) telemetry.0 0
+
+pub kw_within : (kw : Units) → unsigned_abs (kw_or_0 kw) ≤ most_kw
+kw_within kw = grind (arith)
+
+pub telemetry_within : (telemetry : TelemetrySteps) → telemetry_or_0 telemetry ≤ most_telemetry
+telemetry_within telemetry = grind (arith)
+
+-- the tag that figures in range make
+unfoldable pub as_tag : Units → TelemetrySteps → Bool → Tag
+as_tag kw telemetry curtailed = record {
+  kw = record { 0 = kw_or_0 kw };
+  telemetry = record { 0 = telemetry_or_0 telemetry };
+  curtailed = curtailed;
+  scheduled = kw_within kw;
+  metered = telemetry_within telemetry;
+}
 
 -- what stands for an interval without a tag: nothing scheduled or metered, and not curtailed
 abbrev pub no_tag : Tag

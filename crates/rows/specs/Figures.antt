@@ -10,7 +10,7 @@ use Rattle.rows.specs.declared.figures.Volume.{Volume}
 use Rattle.rows.specs.declared.figures.GivenAmount.{GivenAmount}
 
 -- no more than so much, of either sign, and never below 0
-abbrev pub either_way : ℕ → ℤ → Bool
+unfoldable pub either_way : ℕ → ℤ → Bool
 either_way most z = nat_le (unsigned_abs z) most
 
 abbrev pub from_0_to : ℕ → ℤ → Bool
@@ -36,6 +36,7 @@ abbrev pub or_0 : Bool → ℤ → ℤ
 or_0 fits z = cond fits z (pos 0)
 
 pub either_way_within : (most : ℕ) (z : ℤ) → unsigned_abs (or_0 (either_way most z) z) ≤ most
+unfolding either_way
 either_way_within most z = grind (arith)
 
 pub from_0_within : (most : ℕ) (z : ℤ) → unsigned_abs (or_0 (from_0_to most z) z) ≤ most

@@ -5,3 +5,4 @@ pub mod Named
 pub mod Kinds
 pub mod Dispatch
 pub mod Rows
+pub mod Posts

@@ -1,6 +1,10 @@
 // The types of exceptional dispatch, and the words that name them.
 ghost use Rattle.std.specs.Prelude.{◌≡◌, bytes_eq, option_map};
-ghost use Rattle.rows.specs.Dispatch.{dispatch_type, dispatch_word, type_word};
+ghost use Rattle.tables.specs.Refusals.{Tested};
+ghost use Rattle.tables.specs.declared.refusal.Reason.TheVariants.{OutsideValues};
+ghost use Rattle.rows.specs.Dispatch.{dispatch_type, dispatch_word, type_word, dispatch_fits, as_dispatch};
+
+use tables::Reason;
 
 #[derive(Clone, Copy, PartialEq, Eq, Debug)]
 pub enum DispatchType {
@@ -32,8 +36,9 @@ pub enum DispatchType {
 }
 
 // What a post says of the dispatch type.
-#[derive(Clone, Copy, PartialEq, Eq, Debug)]
+#[derive(Clone, Copy, PartialEq, Eq, Default, Debug)]
 pub enum DispatchWord {
+    #[default]
     Absent,
     Named(DispatchType),
     // a word that names no type
@@ -118,7 +123,7 @@ impl DispatchType {
 
 impl DispatchWord {
     // What a word says, where there is one.
-    pub fn read(word: Option<&[u8]>) -> DispatchWord
+    pub fn of(word: Option<&[u8]>) -> DispatchWord
         ensures { result ≡ dispatch_word (option_map (λ w. w.now) word.entry) }
     {
         let Some(word) = word else {
@@ -127,6 +132,17 @@ impl DispatchWord {
         match DispatchType::named(word) {
             Some(kind) => DispatchWord::Named(kind),
             None => DispatchWord::Unknown,
+        }
+    }
+
+    // The type that it names, if it is there and names one.
+    pub fn read(self) -> Result<Option<DispatchType>, Reason>
+        ensures { Tested (dispatch_fits self) (as_dispatch self) OutsideValues result }
+    {
+        match self {
+            DispatchWord::Absent => Ok(None),
+            DispatchWord::Named(kind) => Ok(Some(kind)),
+            DispatchWord::Unknown => Err(Reason::OutsideValues),
         }
     }
 }

@@ -82,7 +82,7 @@ impl Price {
     ghost use Rattle.rows.specs.Figures.{is_price, as_price};
 
     // The price of so many steps.
-    #[tactic(auto, unfolding(crate::specs::Figures::as_price, tables::specs::Ranges::in_range))]
+    #[tactic(auto, unfolding(crate::specs::Figures::as_price, crate::specs::Figures::either_way, tables::specs::Ranges::in_range))]
     pub fn of(steps: i64) -> Result<Price, Reason>
         ensures { Tested (is_price steps) (as_price steps) OutsideValues result }
     {
@@ -92,7 +92,7 @@ impl Price {
         })
     }
 
-    #[tactic(auto, unfolding(crate::specs::Figures::as_price))]
+    #[tactic(auto, unfolding(crate::specs::Figures::as_price, crate::specs::Figures::either_way))]
     pub(crate) fn zero() -> Price
         ensures { result ≡ as_price (pos 0) }
     {
@@ -136,7 +136,7 @@ impl Energy {
     ghost use Rattle.rows.specs.Figures.{is_energy, as_energy};
 
     // The energy of so many units.
-    #[tactic(auto, unfolding(crate::specs::Figures::as_energy, tables::specs::Ranges::in_range))]
+    #[tactic(auto, unfolding(crate::specs::Figures::as_energy, crate::specs::Figures::either_way, tables::specs::Ranges::in_range))]
     pub fn of(units: i64) -> Result<Energy, Reason>
         ensures { Tested (is_energy units) (as_energy units) OutsideValues result }
     {
@@ -146,7 +146,7 @@ impl Energy {
         })
     }
 
-    #[tactic(auto, unfolding(crate::specs::Figures::as_energy))]
+    #[tactic(auto, unfolding(crate::specs::Figures::as_energy, crate::specs::Figures::either_way))]
     pub(crate) fn zero() -> Energy
         ensures { result ≡ as_energy (pos 0) }
     {
@@ -186,7 +186,7 @@ impl GivenAmount {
     ghost use Rattle.rows.specs.Figures.{is_given, as_given};
 
     // The amount of so many cents.
-    #[tactic(auto, unfolding(crate::specs::Figures::as_given, tables::specs::Ranges::in_range))]
+    #[tactic(auto, unfolding(crate::specs::Figures::as_given, crate::specs::Figures::either_way, tables::specs::Ranges::in_range))]
     pub fn of(cents: i64) -> Result<GivenAmount, Reason>
         ensures { Tested (is_given cents) (as_given cents) OutsideValues result }
     {
@@ -196,7 +196,7 @@ impl GivenAmount {
         })
     }
 
-    #[tactic(auto, unfolding(crate::specs::Figures::as_given))]
+    #[tactic(auto, unfolding(crate::specs::Figures::as_given, crate::specs::Figures::either_way))]
     pub(crate) fn zero() -> GivenAmount
         ensures { result ≡ as_given (pos 0) }
     {

@@ -6,6 +6,7 @@ mod dispatch;
 mod figures;
 mod kinds;
 mod party;
+mod posts;
 mod resource;
 mod slot;
 
@@ -14,5 +15,6 @@ pub use dispatch::{DispatchType, DispatchWord};
 pub use figures::{BidCap, Cents, Energy, GivenAmount, Price, PriceSteps, Volume};
 pub use kinds::{AreaKind, ResourceKind};
 pub use party::{GivenAmounts, Party};
+pub use posts::{ElectionPost, EnergyPost, TagPost, TestPost, TransferPost};
 pub use resource::{EnergyRecord, Resource};
 pub use slot::{Interval, QUARTERS, Quarter, Slot};
