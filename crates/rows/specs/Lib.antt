@@ -4,5 +4,7 @@ pub mod Figures
 pub mod Named
 pub mod Kinds
 pub mod Dispatch
+pub mod Codes
 pub mod Rows
 pub mod Posts
+pub mod Posted

@@ -19,14 +19,16 @@ use Rattle.rows.specs.Figures.{is_price, is_cap, is_energy, is_volume, either_wa
 unfoldable pub prices_fit : EnergyPost → Bool
 prices_fit p = is_price p.lmp && is_price p.mss && is_price p.resprice && is_price p.edprice
 
-unfoldable pub imbalance_fits : EnergyPost → Bool
-imbalance_fits p = is_energy p.iie && is_energy p.oa && is_energy p.mssiie
+-- what is settled at the resource's energy price
+unfoldable pub energies_fit : EnergyPost → Bool
+energies_fit p = is_energy p.iie && is_energy p.oa && is_energy p.mssiie && is_energy p.above
 
-unfoldable pub instructed_fits : EnergyPost → Bool
-instructed_fits p = is_energy p.res && is_energy p.above && is_energy p.edqty
+-- what is settled at prices of its own
+unfoldable pub special_energies_fit : EnergyPost → Bool
+special_energies_fit p = is_energy p.res && is_energy p.edqty
 
 abbrev pub energy_fits : EnergyPost → Bool
-energy_fits p = prices_fit p && imbalance_fits p && instructed_fits p && is_flag p.resflag && dispatch_fits p.ed
+energy_fits p = prices_fit p && energies_fit p && special_energies_fit p && is_flag p.resflag && dispatch_fits p.ed
 
 abbrev pub energy_record : EnergyPost → EnergyRecord
 energy_record p = record {

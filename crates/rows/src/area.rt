@@ -1,10 +1,11 @@
 // An area, with its election of assistance energy transfers, its sufficiency tests and its transfers.
 ghost use Rattle.std.specs.Prelude.{◌≡◌};
 ghost use Rattle.rows.specs.Rows.{no_election, no_test, no_transfer, new_area};
+ghost use Rattle.rows.specs.Posted.{with_election, with_test, with_transfer, test_at, transfer_at};
 
 use super::figures::{BidCap, Volume};
 use super::kinds::AreaKind;
-use super::slot::QUARTERS;
+use super::slot::{Interval, QUARTERS, Quarter};
 use deemed::INTERVALS;
 use tables::HasId;
 
@@ -93,6 +94,38 @@ impl Area {
             tests: [SufficiencyTest::none(); QUARTERS],
             transfers: [Transfer::none(); INTERVALS],
         }
+    }
+
+    pub fn set_election(&mut self, election: Election)
+        ensures { self.new ≡ with_election election self.old }
+    {
+        self.election = election;
+    }
+
+    pub fn set_test(&mut self, quarter: Quarter, test: SufficiencyTest)
+        ensures { self.new ≡ with_test quarter.place test self.old }
+    {
+        self.tests[quarter.place] = test;
+    }
+
+    pub fn set_transfer(&mut self, interval: Interval, transfer: Transfer)
+        ensures { self.new ≡ with_transfer interval.place transfer self.old }
+    {
+        self.transfers[interval.place] = transfer;
+    }
+
+    // The test of a quarter.
+    pub fn test(&self, quarter: Quarter) -> SufficiencyTest
+        ensures { result ≡ test_at quarter.place self.now }
+    {
+        self.tests[quarter.place]
+    }
+
+    // The transfers of an interval.
+    pub fn transfer(&self, interval: Interval) -> Transfer
+        ensures { result ≡ transfer_at interval.place self.now }
+    {
+        self.transfers[interval.place]
     }
 }
 

@@ -4,6 +4,7 @@
 mod area;
 mod dispatch;
 mod figures;
+mod given;
 mod kinds;
 mod party;
 mod posts;
@@ -12,7 +13,11 @@ mod slot;
 
 pub use area::{Area, Election, SufficiencyTest, Transfer};
 pub use dispatch::{DispatchType, DispatchWord};
-pub use figures::{BidCap, Cents, Energy, GivenAmount, Price, PriceSteps, Volume};
+pub use figures::{
+    BidCap, Cents, Energy, GivenAmount, MOST_ENERGY, MOST_GIVEN, MOST_PRICE, Price, PriceSteps,
+    Volume,
+};
+pub use given::GivenCode;
 pub use kinds::{AreaKind, ResourceKind};
 pub use party::{GivenAmounts, Party};
 pub use posts::{ElectionPost, EnergyPost, TagPost, TestPost, TransferPost};

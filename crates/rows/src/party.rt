@@ -1,8 +1,11 @@
 // A party, with its demand and the money given for it.
 ghost use Rattle.std.specs.Prelude.{◌≡◌};
 ghost use Rattle.rows.specs.Rows.{nothing_given, new_party};
+ghost use Rattle.rows.specs.Posted.{with_demand, with_given, demand_at, given_at};
 
 use super::figures::{GivenAmount, Volume};
+use super::given::GivenCode;
+use super::slot::Interval;
 use deemed::INTERVALS;
 use tables::HasId;
 
@@ -47,6 +50,40 @@ impl Party {
             area,
             demand: [Volume::zero(); INTERVALS],
             given: GivenAmounts::none(),
+        }
+    }
+
+    pub fn set_demand(&mut self, interval: Interval, demand: Volume)
+        ensures { self.new ≡ with_demand interval.place demand self.old }
+    {
+        self.demand[interval.place] = demand;
+    }
+
+    pub fn set_given(&mut self, interval: Interval, code: GivenCode, amount: GivenAmount)
+        ensures { self.new ≡ with_given code interval.place amount self.old }
+    {
+        match code {
+            GivenCode::PassThrough => self.given.pass_through[interval.place] = amount,
+            GivenCode::Cc6474 => self.given.cc_6474[interval.place] = amount,
+            GivenCode::Cc6475 => self.given.cc_6475[interval.place] = amount,
+        }
+    }
+
+    // The demand of an interval.
+    pub fn demand(&self, interval: Interval) -> Volume
+        ensures { result ≡ demand_at interval.place self.now }
+    {
+        self.demand[interval.place]
+    }
+
+    // What is given in an interval under a code.
+    pub fn given(&self, interval: Interval, code: GivenCode) -> GivenAmount
+        ensures { result ≡ given_at code interval.place self.now }
+    {
+        match code {
+            GivenCode::PassThrough => self.given.pass_through[interval.place],
+            GivenCode::Cc6474 => self.given.cc_6474[interval.place],
+            GivenCode::Cc6475 => self.given.cc_6475[interval.place],
         }
     }
 }

@@ -61,15 +61,15 @@ impl EnergyPost {
     ghost use Rattle.tables.specs.Refusals.{Tested};
     ghost use Rattle.tables.specs.declared.refusal.Reason.TheVariants.{OutsideValues};
     ghost use Rattle.rows.specs.Figures.{as_price, as_energy};
-    ghost use Rattle.rows.specs.Posts.{energy_fits, prices_fit, imbalance_fits, instructed_fits, energy_record};
+    ghost use Rattle.rows.specs.Posts.{energy_fits, prices_fit, energies_fit, special_energies_fit, energy_record};
 
     // The record that the post makes.
     pub fn read(self) -> Result<EnergyRecord, Reason>
         ensures { Tested (energy_fits self) (energy_record self) OutsideValues result }
     {
         let (lmp, mss, resprice, edprice) = self.prices()?;
-        let (iie, oa, mssiie) = self.imbalance()?;
-        let (res, above, edqty) = self.instructed()?;
+        let (iie, oa, mssiie, above) = self.energies()?;
+        let (res, edqty) = self.special_energies()?;
         Ok(EnergyRecord {
             lmp,
             mss,
@@ -98,26 +98,25 @@ impl EnergyPost {
         ))
     }
 
-    #[tactic(auto, unfolding(crate::specs::Posts::imbalance_fits))]
-    fn imbalance(self) -> Result<(Energy, Energy, Energy), Reason>
-        ensures { Tested (imbalance_fits self) (as_energy self.iie, as_energy self.oa, as_energy self.mssiie) OutsideValues result }
+    // What is settled at one price, the resource's energy price: iie, oa, mssiie and above.
+    #[tactic(auto, unfolding(crate::specs::Posts::energies_fit))]
+    fn energies(self) -> Result<(Energy, Energy, Energy, Energy), Reason>
+        ensures { Tested (energies_fit self) (as_energy self.iie, as_energy self.oa, as_energy self.mssiie, as_energy self.above) OutsideValues result }
     {
         Ok((
             Energy::of(self.iie)?,
             Energy::of(self.oa)?,
             Energy::of(self.mssiie)?,
+            Energy::of(self.above)?,
         ))
     }
 
-    #[tactic(auto, unfolding(crate::specs::Posts::instructed_fits))]
-    fn instructed(self) -> Result<(Energy, Energy, Energy), Reason>
-        ensures { Tested (instructed_fits self) (as_energy self.res, as_energy self.above, as_energy self.edqty) OutsideValues result }
+    // What is settled at a price of its own: res and edqty.
+    #[tactic(auto, unfolding(crate::specs::Posts::special_energies_fit))]
+    fn special_energies(self) -> Result<(Energy, Energy), Reason>
+        ensures { Tested (special_energies_fit self) (as_energy self.res, as_energy self.edqty) OutsideValues result }
     {
-        Ok((
-            Energy::of(self.res)?,
-            Energy::of(self.above)?,
-            Energy::of(self.edqty)?,
-        ))
+        Ok((Energy::of(self.res)?, Energy::of(self.edqty)?))
     }
 }
 

@@ -1,10 +1,12 @@
 // A resource, with the energy, the tag and the deemed energy of each of its intervals.
 ghost use Rattle.std.specs.Prelude.{◌≡◌};
 ghost use Rattle.rows.specs.Rows.{no_energy, new_resource};
+ghost use Rattle.rows.specs.Posted.{with_energy, with_tag, energy_at, tag_at};
 
 use super::dispatch::DispatchType;
 use super::figures::{Energy, Price};
 use super::kinds::ResourceKind;
+use super::slot::Interval;
 use deemed::{INTERVALS, Tag, Units};
 use tables::HasId;
 
@@ -79,6 +81,32 @@ impl Resource {
             tags: [Tag::none(); INTERVALS],
             deemed: [Units(0); INTERVALS],
         }
+    }
+
+    pub fn set_energy(&mut self, interval: Interval, energy: EnergyRecord)
+        ensures { self.new ≡ with_energy interval.place energy self.old }
+    {
+        self.energy[interval.place] = energy;
+    }
+
+    pub fn set_tag(&mut self, interval: Interval, tag: Tag)
+        ensures { self.new ≡ with_tag interval.place tag self.old }
+    {
+        self.tags[interval.place] = tag;
+    }
+
+    // The energy record of an interval.
+    pub fn energy(&self, interval: Interval) -> EnergyRecord
+        ensures { result ≡ energy_at interval.place self.now }
+    {
+        self.energy[interval.place]
+    }
+
+    // The tag of an interval.
+    pub fn tag(&self, interval: Interval) -> Tag
+        ensures { result ≡ tag_at interval.place self.now }
+    {
+        self.tags[interval.place]
     }
 }
 

@@ -1,0 +1,25 @@
+// The codes under which money is given for a party.
+ghost use Rattle.std.specs.Prelude.{◌≡◌};
+ghost use Rattle.rows.specs.Codes.{given_code};
+
+// The codes, with their numbers.
+#[derive(Clone, Copy, PartialEq, Eq, Debug)]
+pub enum GivenCode {
+    PassThrough = 6470,
+    Cc6474 = 6474,
+    Cc6475 = 6475,
+}
+
+impl GivenCode {
+    // The code with a number.
+    pub fn numbered(number: i64) -> Option<GivenCode>
+        ensures { result ≡ given_code number }
+    {
+        match number {
+            6470 => Some(GivenCode::PassThrough),
+            6474 => Some(GivenCode::Cc6474),
+            6475 => Some(GivenCode::Cc6475),
+            _ => None,
+        }
+    }
+}
