@@ -1,13 +1,14 @@
 -- The tables of an hour, and what is looked up in them. Assumes nothing.
-use Rattle.std.specs.Prelude.{ℕ, ◌==◌, min, Bool, false, not, List, Option}
+use Rattle.std.specs.Prelude.{ℕ, ◌==◌, min, Bool, false, not, ◌||◌, ℤ, pos, List, Option}
 use Rattle.std.specs.List.{list_any}
 use Rattle.std.specs.Option.{option_map_or}
+use Rattle.std.specs.Ordering.{int_eq}
 use Rattle.tables.specs.Tables as tables
 use Rattle.rows.specs.declared.area.Area.{Area}
 use Rattle.rows.specs.declared.party.Party.{Party}
 use Rattle.rows.specs.declared.resource.Resource.{Resource}
 use Rattle.charges.specs.declared.hour.Hour.{Hour}
-use Rattle.rows.specs.Kinds.{is_ciso}
+use Rattle.rows.specs.Kinds.{is_ciso, is_tie}
 use Rattle.charges.specs.Ranges.{most_areas, most_parties, most_resources}
 
 -- the rows' ids
@@ -39,8 +40,11 @@ abbrev pub resource_of : Hour → ℕ → Option Resource
 resource_of h id = tables.found resource_id id h.resources.rows
 
 -- whether the area with an id is entered, and is the CISO area
+abbrev pub ciso_among : List Area → ℕ → Bool
+ciso_among areas id = option_map_or (λ a. is_ciso a.kind) (tables.found area_id id areas) false
+
 abbrev pub area_is_ciso : Hour → ℕ → Bool
-area_is_ciso h id = option_map_or (λ a. is_ciso a.kind) (area_of h id) false
+area_is_ciso h id = ciso_among h.areas.rows id
 
 -- whether it is entered, and is a WEIM area
 abbrev pub area_is_weim : Hour → ℕ → Bool
@@ -49,6 +53,14 @@ area_is_weim h id = option_map_or (λ a. not (is_ciso a.kind)) (area_of h id) fa
 -- whether the party with an id is entered, and is of the CISO area
 abbrev pub party_is_of_ciso : Hour → ℕ → Bool
 party_is_of_ciso h id = option_map_or (λ p. area_is_ciso h p.area) (party_of h id) false
+
+-- whether the resource with an id is entered, and is a tie
+abbrev pub resource_is_tie : Hour → ℕ → Bool
+resource_is_tie h id = option_map_or (λ r. is_tie r.kind) (resource_of h id) false
+
+-- a WEIM area has no nopay but 0
+abbrev pub nopay_fits : Hour → ℕ → ℤ → Bool
+nopay_fits h area nopay = int_eq nopay (pos 0) || not (area_is_weim h area)
 
 -- whether some area is the CISO area
 abbrev pub any_ciso : List Area → Bool

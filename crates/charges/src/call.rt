@@ -2,7 +2,7 @@
 ghost use Rattle.std.specs.Prelude.{◌≡◌};
 ghost use Rattle.charges.specs.Calls.{place_of};
 
-use rows::{AreaKind, ResourceKind};
+use rows::{AreaKind, ElectionPost, EnergyPost, ResourceKind, TagPost, TestPost, TransferPost};
 use tables::Place;
 
 // What a caller says: numbers as they are given, and words read to what they name.
@@ -23,6 +23,41 @@ pub enum Call {
         net: i64,
         exempt: i64,
     },
+    PostEnergy {
+        id: i64,
+        interval: i64,
+        post: EnergyPost,
+    },
+    PostTag {
+        id: i64,
+        interval: i64,
+        post: TagPost,
+    },
+    PostElection {
+        id: i64,
+        post: ElectionPost,
+    },
+    PostTest {
+        id: i64,
+        quarter: i64,
+        post: TestPost,
+    },
+    PostTransfer {
+        id: i64,
+        interval: i64,
+        post: TransferPost,
+    },
+    PostDemand {
+        id: i64,
+        interval: i64,
+        units: i64,
+    },
+    PostGiven {
+        id: i64,
+        interval: i64,
+        code: i64,
+        cents: i64,
+    },
 }
 
 impl Call {
@@ -33,7 +68,17 @@ impl Call {
         match self {
             Call::EnterArea { id, .. }
             | Call::EnterParty { id, .. }
-            | Call::EnterResource { id, .. } => Place { interval: 0, id },
+            | Call::EnterResource { id, .. }
+            | Call::PostElection { id, .. } => Place { interval: 0, id },
+            Call::PostTest { id, quarter, .. } => Place {
+                interval: quarter,
+                id,
+            },
+            Call::PostEnergy { id, interval, .. }
+            | Call::PostTag { id, interval, .. }
+            | Call::PostTransfer { id, interval, .. }
+            | Call::PostDemand { id, interval, .. }
+            | Call::PostGiven { id, interval, .. } => Place { interval, id },
         }
     }
 }

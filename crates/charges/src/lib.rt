@@ -2,7 +2,9 @@
 #![tactic(auto)]
 
 mod call;
+mod entering;
 mod hour;
+mod posting;
 mod records;
 
 pub use call::Call;

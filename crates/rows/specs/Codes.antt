@@ -10,5 +10,5 @@ code_number Cc6474 = 6474
 code_number Cc6475 = 6475
 
 -- the code with a number
-abbrev pub given_code : ℤ → Option GivenCode
+unfoldable pub given_code : ℤ → Option GivenCode
 given_code number = find (λ c. int_eq (pos (code_number c)) number) (PassThrough ∷ Cc6474 ∷ Cc6475 ∷ [])

@@ -29,3 +29,8 @@ is_ciso Weim = false
 -- whether the CISO area's kind is named
 abbrev pub names_ciso : Option AreaKind → Bool
 names_ciso kind = option_map_or is_ciso kind false
+
+abbrev pub is_tie : ResourceKind → Bool
+is_tie Plain = false
+is_tie StaticTie = true
+is_tie DynamicTie = true

@@ -41,16 +41,16 @@ energy_at place r = slice_index_or r.energy place no_energy
 abbrev pub tag_at : ℕ → Resource → Tag
 tag_at place r = slice_index_or r.tags place no_tag
 
-abbrev pub with_election : Election → Area → Area
+unfoldable pub with_election : Election → Area → Area
 with_election election a = record a { election = election }
 
-abbrev pub with_test : ℕ → SufficiencyTest → Area → Area
+unfoldable pub with_test : ℕ → SufficiencyTest → Area → Area
 with_test place test a = record a { tests = slice_set a.tests place test }
 
-abbrev pub with_transfer : ℕ → Transfer → Area → Area
+unfoldable pub with_transfer : ℕ → Transfer → Area → Area
 with_transfer place transfer a = record a { transfers = slice_set a.transfers place transfer }
 
-abbrev pub with_demand : ℕ → Volume → Party → Party
+unfoldable pub with_demand : ℕ → Volume → Party → Party
 with_demand place demand p = record p { demand = slice_set p.demand place demand }
 
 abbrev pub with_amount : GivenCode → ℕ → GivenAmount → GivenAmounts → GivenAmounts
@@ -58,11 +58,11 @@ with_amount PassThrough place amount g = record g { pass_through = slice_set g.p
 with_amount Cc6474 place amount g = record g { cc_6474 = slice_set g.cc_6474 place amount }
 with_amount Cc6475 place amount g = record g { cc_6475 = slice_set g.cc_6475 place amount }
 
-abbrev pub with_given : GivenCode → ℕ → GivenAmount → Party → Party
+unfoldable pub with_given : GivenCode → ℕ → GivenAmount → Party → Party
 with_given code place amount p = record p { given = with_amount code place amount p.given }
 
-abbrev pub with_energy : ℕ → EnergyRecord → Resource → Resource
+unfoldable pub with_energy : ℕ → EnergyRecord → Resource → Resource
 with_energy place energy r = record r { energy = slice_set r.energy place energy }
 
-abbrev pub with_tag : ℕ → Tag → Resource → Resource
+unfoldable pub with_tag : ℕ → Tag → Resource → Resource
 with_tag place tag r = record r { tags = slice_set r.tags place tag }

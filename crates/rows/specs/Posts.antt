@@ -27,10 +27,10 @@ energies_fit p = is_energy p.iie && is_energy p.oa && is_energy p.mssiie && is_e
 unfoldable pub special_energies_fit : EnergyPost → Bool
 special_energies_fit p = is_energy p.res && is_energy p.edqty
 
-abbrev pub energy_fits : EnergyPost → Bool
+unfoldable pub energy_fits : EnergyPost → Bool
 energy_fits p = prices_fit p && energies_fit p && special_energies_fit p && is_flag p.resflag && dispatch_fits p.ed
 
-abbrev pub energy_record : EnergyPost → EnergyRecord
+unfoldable pub energy_record : EnergyPost → EnergyRecord
 energy_record p = record {
   lmp = as_price p.lmp;
   mss = as_price p.mss;
@@ -46,26 +46,26 @@ energy_record p = record {
   ed = as_dispatch p.ed;
 }
 
-abbrev pub tag_fits : TagPost → Bool
+unfoldable pub tag_fits : TagPost → Bool
 tag_fits p = either_way most_kw p.kw && from_0_to most_telemetry p.telemetry && is_flag p.curtailed
 
-abbrev pub tag_record : TagPost → Tag
+unfoldable pub tag_record : TagPost → Tag
 tag_record p = as_tag (record { 0 = p.kw }) (record { 0 = unsigned_abs p.telemetry }) (flag p.curtailed)
 
-abbrev pub election_fits : ElectionPost → Bool
+unfoldable pub election_fits : ElectionPost → Bool
 election_fits p = is_flag p.opted_in && is_cap p.cap && is_volume p.up && is_volume p.nopay
 
-abbrev pub election_record : ElectionPost → Election
+unfoldable pub election_record : ElectionPost → Election
 election_record p = record { opted_in = flag p.opted_in; cap = as_cap p.cap; up = as_volume p.up; nopay = as_volume p.nopay }
 
-abbrev pub test_fits : TestPost → Bool
+unfoldable pub test_fits : TestPost → Bool
 test_fits p = is_volume p.capacity && is_volume p.ramp && is_volume p.nopay
 
-abbrev pub test_record : TestPost → SufficiencyTest
+unfoldable pub test_record : TestPost → SufficiencyTest
 test_record p = record { capacity = as_volume p.capacity; ramp = as_volume p.ramp; nopay = as_volume p.nopay }
 
-abbrev pub transfer_fits : TransferPost → Bool
+unfoldable pub transfer_fits : TransferPost → Bool
 transfer_fits p = is_volume p.to && is_volume p.base_to && is_volume p.from && is_volume p.base_from
 
-abbrev pub transfer_record : TransferPost → Transfer
+unfoldable pub transfer_record : TransferPost → Transfer
 transfer_record p = record { to = as_volume p.to; base_to = as_volume p.base_to; from = as_volume p.from; base_from = as_volume p.base_from }

@@ -3,11 +3,19 @@ use Rattle.std.specs.Prelude.{◌≡◌, ◌-◌, ℕ, Bool, true, false, ℤ, p
 use Rattle.tables.specs.Ranges.{in_range}
 use Rattle.tables.specs.declared.refusal.Reason.{Reason}
 use Rattle.tables.specs.declared.refusal.Reason.TheVariants.{OutsideSpan}
+use Rattle.deemed.specs.Ranges.{hour_length}
+use Rattle.rows.specs.Ranges.{quarters}
 use Rattle.rows.specs.declared.slot.Slot.{Slot}
 
 -- whether a number is that of one of so many
 abbrev pub is_slot : ℕ → ℤ → Bool
 is_slot count z = in_range (pos 1) (pos count) z
+
+abbrev pub is_interval : ℤ → Bool
+is_interval z = is_slot hour_length z
+
+abbrev pub is_quarter : ℤ → Bool
+is_quarter z = is_slot quarters z
 
 -- its place, from 0
 abbrev pub slot_place : ℤ → ℕ

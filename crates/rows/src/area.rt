@@ -96,18 +96,21 @@ impl Area {
         }
     }
 
+    #[tactic(auto, unfolding(crate::specs::Posted::with_election))]
     pub fn set_election(&mut self, election: Election)
         ensures { self.new ≡ with_election election self.old }
     {
         self.election = election;
     }
 
+    #[tactic(auto, unfolding(crate::specs::Posted::with_test))]
     pub fn set_test(&mut self, quarter: Quarter, test: SufficiencyTest)
         ensures { self.new ≡ with_test quarter.place test self.old }
     {
         self.tests[quarter.place] = test;
     }
 
+    #[tactic(auto, unfolding(crate::specs::Posted::with_transfer))]
     pub fn set_transfer(&mut self, interval: Interval, transfer: Transfer)
         ensures { self.new ≡ with_transfer interval.place transfer self.old }
     {

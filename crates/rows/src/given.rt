@@ -12,6 +12,7 @@ pub enum GivenCode {
 
 impl GivenCode {
     // The code with a number.
+    #[tactic(auto, unfolding(crate::specs::Codes::given_code))]
     pub fn numbered(number: i64) -> Option<GivenCode>
         ensures { result ≡ given_code number }
     {

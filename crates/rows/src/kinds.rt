@@ -1,6 +1,6 @@
 // The kinds of areas and resources, and the words that name them.
 ghost use Rattle.std.specs.Prelude.{◌≡◌};
-ghost use Rattle.rows.specs.Kinds.{area_kind, is_ciso, resource_kind};
+ghost use Rattle.rows.specs.Kinds.{area_kind, is_ciso, is_tie, resource_kind};
 
 #[derive(Clone, Copy, PartialEq, Eq, Debug)]
 pub enum AreaKind {
@@ -53,5 +53,12 @@ impl ResourceKind {
             'D' => Some(ResourceKind::DynamicTie),
             _ => None,
         }
+    }
+
+    // Whether it is a static or a dynamic tie.
+    pub fn is_tie(self) -> bool
+        ensures { result ≡ is_tie self }
+    {
+        self != ResourceKind::Plain
     }
 }

@@ -53,12 +53,14 @@ impl Party {
         }
     }
 
+    #[tactic(auto, unfolding(crate::specs::Posted::with_demand))]
     pub fn set_demand(&mut self, interval: Interval, demand: Volume)
         ensures { self.new ≡ with_demand interval.place demand self.old }
     {
         self.demand[interval.place] = demand;
     }
 
+    #[tactic(auto, unfolding(crate::specs::Posted::with_given))]
     pub fn set_given(&mut self, interval: Interval, code: GivenCode, amount: GivenAmount)
         ensures { self.new ≡ with_given code interval.place amount self.old }
     {

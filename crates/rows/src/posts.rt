@@ -64,6 +64,7 @@ impl EnergyPost {
     ghost use Rattle.rows.specs.Posts.{energy_fits, prices_fit, energies_fit, special_energies_fit, energy_record};
 
     // The record that the post makes.
+    #[tactic(auto, unfolding(crate::specs::Posts::energy_fits, crate::specs::Posts::energy_record))]
     pub fn read(self) -> Result<EnergyRecord, Reason>
         ensures { Tested (energy_fits self) (energy_record self) OutsideValues result }
     {
@@ -125,7 +126,7 @@ impl TagPost {
     ghost use Rattle.tables.specs.declared.refusal.Reason.TheVariants.{OutsideValues};
     ghost use Rattle.rows.specs.Posts.{tag_fits, tag_record};
 
-    #[tactic(auto, unfolding(deemed::specs::Tags::as_tag, crate::specs::Figures::either_way, tables::specs::Ranges::in_range))]
+    #[tactic(auto, unfolding(crate::specs::Posts::tag_fits, crate::specs::Posts::tag_record, deemed::specs::Tags::as_tag, crate::specs::Figures::either_way, tables::specs::Ranges::in_range))]
     pub fn read(self) -> Result<Tag, Reason>
         ensures { Tested (tag_fits self) (tag_record self) OutsideValues result }
     {
@@ -147,6 +148,7 @@ impl ElectionPost {
     ghost use Rattle.tables.specs.declared.refusal.Reason.TheVariants.{OutsideValues};
     ghost use Rattle.rows.specs.Posts.{election_fits, election_record};
 
+    #[tactic(auto, unfolding(crate::specs::Posts::election_fits, crate::specs::Posts::election_record))]
     pub fn read(self) -> Result<Election, Reason>
         ensures { Tested (election_fits self) (election_record self) OutsideValues result }
     {
@@ -164,6 +166,7 @@ impl TestPost {
     ghost use Rattle.tables.specs.declared.refusal.Reason.TheVariants.{OutsideValues};
     ghost use Rattle.rows.specs.Posts.{test_fits, test_record};
 
+    #[tactic(auto, unfolding(crate::specs::Posts::test_fits, crate::specs::Posts::test_record))]
     pub fn read(self) -> Result<SufficiencyTest, Reason>
         ensures { Tested (test_fits self) (test_record self) OutsideValues result }
     {
@@ -180,6 +183,7 @@ impl TransferPost {
     ghost use Rattle.tables.specs.declared.refusal.Reason.TheVariants.{OutsideValues};
     ghost use Rattle.rows.specs.Posts.{transfer_fits, transfer_record};
 
+    #[tactic(auto, unfolding(crate::specs::Posts::transfer_fits, crate::specs::Posts::transfer_record))]
     pub fn read(self) -> Result<Transfer, Reason>
         ensures { Tested (transfer_fits self) (transfer_record self) OutsideValues result }
     {

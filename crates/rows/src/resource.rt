@@ -83,12 +83,14 @@ impl Resource {
         }
     }
 
+    #[tactic(auto, unfolding(crate::specs::Posted::with_energy))]
     pub fn set_energy(&mut self, interval: Interval, energy: EnergyRecord)
         ensures { self.new ≡ with_energy interval.place energy self.old }
     {
         self.energy[interval.place] = energy;
     }
 
+    #[tactic(auto, unfolding(crate::specs::Posted::with_tag))]
     pub fn set_tag(&mut self, interval: Interval, tag: Tag)
         ensures { self.new ≡ with_tag interval.place tag self.old }
     {

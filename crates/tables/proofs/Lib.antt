@@ -1,3 +1,4 @@
 pub mod Fits
 pub mod Places
 pub mod Pushed
+pub mod Changed

@@ -3,7 +3,7 @@ use Rattle.std.specs.Prelude.{◌≡◌, ℕ, ◌==◌, nat_lt, Bool, true, fals
 use Rattle.std.specs.Option.{option_map_or}
 use Rattle.tables.specs.View.{Table}
 use Rattle.tables.specs.declared.refusal.Reason.{Reason}
-use Rattle.tables.specs.declared.refusal.Reason.TheVariants.{Full}
+use Rattle.tables.specs.declared.refusal.Reason.TheVariants.{Full, Misfit, NotEntered}
 
 module _ {T : Type 0} where
   -- the first row with an id
@@ -30,14 +30,25 @@ module _ {T : Type 0} where
   with_row t x = record t { rows = t.rows ++ x ∷ [] }
 
   -- another row in the place of the first with an id
-  abbrev pub with_replaced : (T → ℕ) → ℕ → Table T → T → Table T
+  unfoldable pub with_replaced : (T → ℕ) → ℕ → Table T → T → Table T
   with_replaced key id t x = record t { rows = option_map_or (λ i. slice_set t.rows i x) (place key id t.rows) t.rows }
 
   -- the first row with an id is changed, and no other
-  abbrev pub changed : (T → ℕ) → ℕ → (T → T) → Table T → Table T
+  unfoldable pub changed : (T → ℕ) → ℕ → (T → T) → Table T → Table T
   changed key id change t = option_map_or (λ x. with_replaced key id t (change x)) (found key id t.rows) t
 
   -- a row is added where there is room, and else the table is as it was
   abbrev pub TriedToAdd : T → Table T → Table T → Result (Unit {0}) Reason → Type 0
   TriedToAdd x before after (Ok _) = (has_room before ≡ true) × (after ≡ with_row before x)
   TriedToAdd x before after (Err r) = (has_room before ≡ false) × (r ≡ Full) × (after ≡ before)
+
+  -- the row with an id is changed where one is entered, and else the table is as it was
+  abbrev pub TriedToChange : (T → ℕ) → ℕ → (T → T) → Table T → Table T → Result (Unit {0}) Reason → Type 0
+  TriedToChange key id change before after (Ok _) = (entered key id before.rows ≡ true) × (after ≡ changed key id change before)
+  TriedToChange key id change before after (Err r) = (entered key id before.rows ≡ false) × (r ≡ NotEntered) × (after ≡ before)
+
+  -- it is changed where one is entered and fits there
+  abbrev pub TriedToChangeIf : (T → ℕ) → ℕ → (T → Bool) → (T → T) → Table T → Table T → Result (Unit {0}) Reason → Type 0
+  TriedToChangeIf key id fits change before after (Ok _) = (entered key id before.rows ≡ true) × (option_map_or fits (found key id before.rows) false ≡ true) × (after ≡ changed key id change before)
+  TriedToChangeIf key id fits change before after (Err NotEntered) = (entered key id before.rows ≡ false) × (after ≡ before)
+  TriedToChangeIf key id fits change before after (Err r) = (entered key id before.rows ≡ true) × (option_map_or fits (found key id before.rows) false ≡ false) × (r ≡ Misfit) × (after ≡ before)

@@ -89,7 +89,7 @@ impl<T: HasId> Table<T> {
     }
 
     // The same row, to be written.
-    #[tactic(auto, using(crate::proofs::Places::find_there, crate::proofs::Places::find_nowhere))]
+    #[tactic(auto, using(crate::proofs::Places::find_there, crate::proofs::Places::find_nowhere), unfolding(crate::specs::Tables::with_replaced))]
     pub fn row_mut(&mut self, id: u16) -> Result<&mut T, Reason>
         ensures* writes_back { sem 𝓛 (lends_found T.row T.key self.entry id result) }
         ensures value { MatchResult result (λ x. found T.key id self.old.rows ≡ Some x.now) (λ r. (found T.key id self.old.rows ≡ None) × (r ≡ NotEntered)) }

@@ -1,0 +1,61 @@
+-- What changing a row by its id comes to. Assumes nothing.
+use Rattle.std.proofs.Common.{◌≡◌, refl, sym, ap, ◌∙◌, ℕ, ◌==◌, List, map, Option, Some, None, slice_set, slice_index_or, find, position, arith}
+use Rattle.std.specs.Option.{option_map_or}
+use Rattle.std.proofs.lemmas.List.{set-get_or}
+use Rattle.std.proofs.Math.Seq.{map-set_same}
+use Rattle.tables.specs.View.{Table}
+use Rattle.tables.specs.Tables.{found, place, with_replaced, changed}
+use Rattle.tables.proofs.Places.{find_there}
+
+module _ {T : Type 0} (key : T → ℕ) (id : ℕ) (t : Table T) where
+  -- the row that is found, changed and put back
+  pub changed_found : (change : T → T) (x : T) → found key id t.rows ≡ Some x → changed key id change t ≡ with_replaced key id t (change x)
+  unfolding changed
+  changed_found change x e = ap (λ o. option_map_or (λ y. with_replaced key id t (change y)) o t) e
+
+  -- where none is found, nothing changes
+  unchanged : (change : T → T) → found key id t.rows ≡ None → changed key id change t ≡ t
+  unfolding changed
+  unchanged change e = ap (λ o. option_map_or (λ y. with_replaced key id t (change y)) o t) e
+
+  -- the row that is found stands at the place
+  stands : (x : T) (i : ℕ) → found key id t.rows ≡ Some x → place key id t.rows ≡ Some i → slice_index_or t.rows i x ≡ x
+  stands x i e there =
+      let same : Some (slice_index_or t.rows i x) ≡ Some x = sym (find_there (λ y. key y == id) t.rows i x there) ∙ e in
+      grind (arith, same)
+
+  -- a row that looks like the one that is found, in its place: all rows look as before
+  looks_same : {X : Type 0} (look : T → X) (x y : T) → found key id t.rows ≡ Some x → look y ≡ look x → map look (with_replaced key id t y).rows ≡ map look t.rows
+  unfolding with_replaced
+  looks_same look x y e same = at (place key id t.rows) refl
+    where
+      at : (o : Option ℕ) → place key id t.rows ≡ o → map look (option_map_or (λ i. slice_set t.rows i y) o t.rows) ≡ map look t.rows
+      at None there = refl
+      at (Some i) there = map-set_same look t.rows i y x (same ∙ ap look (sym (stands x i e there)))
+
+  -- the row that is found, put back as it is
+  pub replaced_same : (x : T) → found key id t.rows ≡ Some x → with_replaced key id t x ≡ t
+  unfolding with_replaced
+  replaced_same x e = at (place key id t.rows) refl
+    where
+      at : (o : Option ℕ) → place key id t.rows ≡ o → record t { rows = option_map_or (λ i. slice_set t.rows i x) o t.rows } ≡ t
+      at None there = refl
+      at (Some i) there = ap (λ rows. record t { rows = rows }) (ap (slice_set t.rows i) (sym (stands x i e there)) ∙ set-get_or t.rows i x)
+
+  module _ (change : T → T) where
+    -- a change that cannot be seen leaves all rows looking as before
+    pub changed_looks : {X : Type 0} (look : T → X) → ((x : T) → look (change x) ≡ look x) → map look (changed key id change t).rows ≡ map look t.rows
+    changed_looks look same = at (found key id t.rows) refl
+      where
+        at : (o : Option T) → found key id t.rows ≡ o → map look (changed key id change t).rows ≡ map look t.rows
+        at None e = ap (λ u. map look u.rows) (unchanged change e)
+        at (Some x) e = ap (λ u. map look u.rows) (changed_found change x e) ∙ looks_same look x (change x) e (same x)
+
+    -- the room stays
+    pub changed_room : (changed key id change t).most ≡ t.most
+    unfolding changed with_replaced
+    changed_room = at (found key id t.rows)
+      where
+        at : (o : Option T) → (option_map_or (λ y. with_replaced key id t (change y)) o t).most ≡ t.most
+        at None = refl
+        at (Some x) = refl
