@@ -1,1 +1,2 @@
+pub mod SoundPosted
 pub mod SoundAfter

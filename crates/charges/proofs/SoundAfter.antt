@@ -1,8 +1,8 @@
 -- Every call leaves sound records sound, and only adds ids. Assumes nothing.
-use Rattle.std.proofs.Common.{◌≡◌, refl, sym, ap, ◌∙◌, subst, ℕ, ◌+◌, ◌≤◌, ◌==◌, Bool, true, false, cond, not, ◌&&◌, List, [], ◌∷◌, ◌++◌, map, Option, Some, None, is_some, ℤ, arith, eqb-true}
+use Rattle.std.proofs.Common.{◌≡◌, refl, sym, ap, ◌∙◌, subst, ℕ, ◌+◌, ◌≤◌, ◌==◌, Bool, true, false, cond, not, ◌&&◌, List, [], ◌∷◌, ◌++◌, Option, Some, None, is_some, ℤ, arith, eqb-true}
 use Rattle.std.specs.List.{All, list_any, count_by}
 use Rattle.std.specs.Option.{option_map_or}
-use Rattle.std.proofs.lemmas.List.{append-nil, map-append}
+use Rattle.std.proofs.lemmas.List.{map-append}
 use Rattle.std.proofs.lemmas.List.Elements.{All-push, All-weaker}
 use Rattle.std.proofs.lemmas.List.Sums.{sum_by_push}
 use Rattle.tables.specs.Refusals.{first_fit}
@@ -13,7 +13,7 @@ use Rattle.rows.specs.declared.kinds.AreaKind.{AreaKind}
 use Rattle.rows.specs.declared.kinds.ResourceKind.{ResourceKind}
 use Rattle.rows.specs.declared.party.Party.{Party}
 use Rattle.charges.specs.declared.call.Call.{Call}
-use Rattle.charges.specs.declared.call.Call.TheVariants.{EnterArea, EnterParty, EnterResource}
+use Rattle.charges.specs.declared.call.Call.TheVariants.{EnterArea, EnterParty, EnterResource, PostEnergy, PostTag, PostElection, PostTest, PostTransfer, PostDemand, PostGiven}
 use Rattle.charges.specs.declared.hour.Hour.{Hour}
 use Rattle.rows.specs.Kinds.{is_ciso}
 use Rattle.charges.specs.Ranges.{most_areas, most_parties, most_resources}
@@ -21,6 +21,7 @@ use Rattle.rows.specs.Rows.{new_area, new_party, new_resource}
 use Rattle.charges.specs.Hours.{area_id, party_id, resource_id, area_of, party_of, area_is_ciso, area_is_weim, party_is_of_ciso, any_ciso, any_party_in}
 use Rattle.charges.specs.Calls.{reasons, made_by, left_by}
 use Rattle.charges.specs.Sound.{Sound, Grows, Extends, StepsKeepSound}
+use Rattle.charges.proofs.SoundPosted.{Lasts, same_ids, energy_lasts, tag_lasts, election_lasts, test_lasts, transfer_lasts, demand_lasts, given_lasts}
 
 -- what passes a test is there
 there : {T : Type 0} (f : T → Bool) (o : Option T) → option_map_or f o false ≡ true → is_some o ≡ true
@@ -122,51 +123,58 @@ module _ (h : Hour) (s : Sound h) where
         owners = All-push (λ r. party_is_of_ciso h r.owner ≡ true) h.resources.rows r s.owners (grind (arith, fits));
       }
 
-pub sound_made : (call : Call) (h : Hour) → first_fit (reasons call h) ≡ None → Sound h → Sound (made_by call h)
-sound_made (EnterArea id None) h e s = s
-sound_made (EnterArea id (Some kind)) h e s = with_area h s id kind e
-sound_made (EnterParty id area) h e s = with_party h s id area e
-sound_made (EnterResource id owner None net exempt) h e s = s
-sound_made (EnterResource id owner (Some kind) net exempt) h e s = with_resource h s id owner kind net exempt e
-
-pub sound_left : (call : Call) (h : Hour) → Sound h → Sound (left_by call h)
-sound_left call h s = left_either Sound (first_fit (reasons call h)) h (made_by call h) (λ e. sound_made call h e s) s
-
-same_ids : {T : Type 0} (key : T → ℕ) (xs : List T) → Extends key xs xs
-same_ids key xs = ([], sym (append-nil (map key xs)))
-
 more_ids : {T : Type 0} (key : T → ℕ) (xs : List T) (y : T) → Extends key xs (xs ++ y ∷ [])
 more_ids key xs y = (key y ∷ [], map-append key xs (y ∷ []))
 
 none_new : (h : Hour) → Grows h h
 none_new h = record {
-  areas = same_ids area_id h.areas.rows;
-  parties = same_ids party_id h.parties.rows;
-  resources = same_ids resource_id h.resources.rows;
+  areas = same_ids area_id h.areas.rows h.areas.rows refl;
+  parties = same_ids party_id h.parties.rows h.parties.rows refl;
+  resources = same_ids resource_id h.resources.rows h.resources.rows refl;
 }
 
-pub grows_made : (call : Call) (h : Hour) → Grows h (made_by call h)
-grows_made (EnterArea id None) h = none_new h
-grows_made (EnterArea id (Some kind)) h = record {
-  areas = more_ids area_id h.areas.rows (new_area (as_id id) kind);
-  parties = same_ids party_id h.parties.rows;
-  resources = same_ids resource_id h.resources.rows;
-}
-grows_made (EnterParty id area) h = record {
-  areas = same_ids area_id h.areas.rows;
-  parties = more_ids party_id h.parties.rows (new_party (as_id id) (as_id area));
-  resources = same_ids resource_id h.resources.rows;
-}
-grows_made (EnterResource id owner None net exempt) h = none_new h
-grows_made (EnterResource id owner (Some kind) net exempt) h = record {
-  areas = same_ids area_id h.areas.rows;
-  parties = same_ids party_id h.parties.rows;
-  resources = more_ids resource_id h.resources.rows (new_resource (as_id id) (as_id owner) kind (flag net) (flag exempt));
-}
+-- sound records stay so after an accepted call, and only grow
+lasts_made : (call : Call) (h : Hour) → first_fit (reasons call h) ≡ None → Sound h → Lasts h (made_by call h)
+lasts_made (EnterArea id None) h e s = (s, none_new h)
+lasts_made (EnterArea id (Some kind)) h e s = (
+  with_area h s id kind e,
+  record {
+    areas = more_ids area_id h.areas.rows (new_area (as_id id) kind);
+    parties = same_ids party_id h.parties.rows h.parties.rows refl;
+    resources = same_ids resource_id h.resources.rows h.resources.rows refl;
+  },
+)
+lasts_made (EnterParty id area) h e s = (
+  with_party h s id area e,
+  record {
+    areas = same_ids area_id h.areas.rows h.areas.rows refl;
+    parties = more_ids party_id h.parties.rows (new_party (as_id id) (as_id area));
+    resources = same_ids resource_id h.resources.rows h.resources.rows refl;
+  },
+)
+lasts_made (EnterResource id owner None net exempt) h e s = (s, none_new h)
+lasts_made (EnterResource id owner (Some kind) net exempt) h e s = (
+  with_resource h s id owner kind net exempt e,
+  record {
+    areas = same_ids area_id h.areas.rows h.areas.rows refl;
+    parties = same_ids party_id h.parties.rows h.parties.rows refl;
+    resources = more_ids resource_id h.resources.rows (new_resource (as_id id) (as_id owner) kind (flag net) (flag exempt));
+  },
+)
+lasts_made (PostEnergy id interval post) h e s = energy_lasts h s id interval post
+lasts_made (PostTag id interval post) h e s = tag_lasts h s id interval post
+lasts_made (PostElection id post) h e s = election_lasts h s id post
+lasts_made (PostTest id quarter post) h e s = test_lasts h s id quarter post
+lasts_made (PostTransfer id interval post) h e s = transfer_lasts h s id interval post
+lasts_made (PostDemand id interval units) h e s = demand_lasts h s id interval units
+lasts_made (PostGiven id interval code cents) h e s = given_lasts h s id interval code cents
 
-pub grows_left : (call : Call) (h : Hour) → Grows h (left_by call h)
-grows_left call h = left_either (Grows h) (first_fit (reasons call h)) h (made_by call h) (λ e. grows_made call h) (none_new h)
+-- and after any call
+pub lasts_left : (call : Call) (h : Hour) → Sound h → Lasts h (left_by call h)
+lasts_left call h s =
+    left_either (Lasts h) (first_fit (reasons call h)) h (made_by call h)
+    (λ e. lasts_made call h e s) (s, none_new h)
 
 pub steps_keep_sound : StepsKeepSound
 steps_keep_sound before after step s =
-    (subst Sound (sym step.made) (sound_made step.call before step.accepted s), subst (Grows before) (sym step.made) (grows_made step.call before))
+    subst (Lasts before) (sym step.made) (lasts_made step.call before step.accepted s)

@@ -1,5 +1,5 @@
 -- The calls: why each is refused, what it makes of the records, and what its refusal shows. Assumes nothing.
-use Rattle.std.specs.Prelude.{◌&&◌, List, [], ◌∷◌, Some, None, is_some, Result, pos}
+use Rattle.std.specs.Prelude.{◌&&◌, List, [], ◌∷◌, Some, None, is_some, Result, ℤ, pos}
 use Rattle.std.specs.Option.{option_map, option_map_or}
 use Rattle.tables.specs.declared.refusal.Reason.{Reason}
 use Rattle.tables.specs.declared.refusal.Reason.TheVariants.{OutsideSpan, OutsideValues, NotEntered, AlreadyEntered, Misfit, Full}
@@ -124,27 +124,35 @@ made_by (PostGiven id interval code cents) h =
     (λ c. record h { parties = changed party_id (as_id id) (with_given c (slot_place interval) (as_given cents)) h.parties })
     (given_code code) h
 
+-- the place of an interval or a quarter, and an id
+abbrev pub at : ℤ → ℤ → Place
+at interval id = record { interval = interval; id = id }
+
 -- what a call is about, as it gave it
 abbrev pub place_of : Call → Place
-place_of (EnterArea id kind) = record { interval = pos 0; id = id }
-place_of (EnterParty id area) = record { interval = pos 0; id = id }
-place_of (EnterResource id owner kind net exempt) = record { interval = pos 0; id = id }
-place_of (PostEnergy id interval post) = record { interval = interval; id = id }
-place_of (PostTag id interval post) = record { interval = interval; id = id }
-place_of (PostElection id post) = record { interval = pos 0; id = id }
-place_of (PostTest id quarter post) = record { interval = quarter; id = id }
-place_of (PostTransfer id interval post) = record { interval = interval; id = id }
-place_of (PostDemand id interval units) = record { interval = interval; id = id }
-place_of (PostGiven id interval code cents) = record { interval = interval; id = id }
+place_of (EnterArea id kind) = at (pos 0) id
+place_of (EnterParty id area) = at (pos 0) id
+place_of (EnterResource id owner kind net exempt) = at (pos 0) id
+place_of (PostEnergy id interval post) = at interval id
+place_of (PostTag id interval post) = at interval id
+place_of (PostElection id post) = at (pos 0) id
+place_of (PostTest id quarter post) = at quarter id
+place_of (PostTransfer id interval post) = at interval id
+place_of (PostDemand id interval units) = at interval id
+place_of (PostGiven id interval code cents) = at interval id
 
 -- how a call is judged: by the first reason that fits, if one does
 abbrev pub judgment_of : Call → Hour → Result (Unit {0}) Reason
 judgment_of call h = answered (first_fit (reasons call h))
 
+-- a refusal of this part
+abbrev pub refusal : Reason → Place → Refusal
+refusal reason place = record { reason = reason; part = Charges; place = place }
+
 -- the answer to a call: the same, as a refusal with its part and its place
 abbrev pub answer_to : Call → Hour → Result (Unit {0}) Refusal
 answer_to call h =
-    answered (option_map (λ r. record { reason = r; part = Charges; place = place_of call }) (first_fit (reasons call h)))
+    answered (option_map (λ r. refusal r (place_of call)) (first_fit (reasons call h)))
 
 -- what a call leaves of the records: what it makes of them where no reason fits, and else just them
 abbrev pub left_by : Call → Hour → Hour

@@ -1,4 +1,5 @@
 pub mod Ranges
 pub mod Hours
 pub mod Calls
+pub mod Readings
 pub mod Sound

@@ -2,9 +2,12 @@
 #![tactic(auto)]
 
 mod call;
+mod calls;
 mod entering;
 mod hour;
+mod placing;
 mod posting;
+mod readings;
 mod records;
 
 pub use call::Call;

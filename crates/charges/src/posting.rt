@@ -2,125 +2,19 @@
 ghost use Rattle.std.specs.Prelude.{◌≡◌};
 ghost use Rattle.tables.specs.Refusals.{Tested};
 ghost use Rattle.tables.specs.declared.refusal.Reason.TheVariants.{OutsideValues};
-ghost use Rattle.tables.specs.Tables.{TriedToChange, TriedToChangeIf};
-ghost use Rattle.rows.specs.Kinds.{is_tie};
-ghost use Rattle.rows.specs.Posted.{with_election, with_test, with_transfer, with_demand, with_given, with_energy, with_tag};
-ghost use Rattle.charges.specs.Hours.{area_id, party_id, resource_id, ciso_among, nopay_fits};
+ghost use Rattle.charges.specs.Hours.{nopay_fits};
 ghost use Rattle.charges.specs.Calls.{judgment_of, left_by};
 ghost use Rattle.charges.specs.declared.call.Call.TheVariants.{PostEnergy, PostTag, PostElection, PostTest, PostTransfer, PostDemand, PostGiven};
 
-use super::entering::check_ciso;
 use super::hour::Hour;
-use deemed::Tag;
-use rows::{
-    Area, Election, ElectionPost, EnergyPost, EnergyRecord, GivenAmount, GivenCode, Interval,
-    Party, Quarter, Resource, SufficiencyTest, TagPost, TestPost, Transfer, TransferPost, Volume,
+use super::placing::{
+    put_demand, put_election, put_energy, put_given, put_tag, put_test, put_transfer,
 };
-use tables::{Reason, Table, id_of};
-
-// Puts a record in its place, where the resource is entered.
-#[tactic(auto, using(tables::proofs::Changed::changed_found))]
-fn put_energy(
-    resources: &mut Table<Resource>,
-    id: u16,
-    interval: Interval,
-    energy: EnergyRecord,
-) -> Result<(), Reason>
-    ensures { TriedToChange resource_id id (with_energy interval.place energy) resources.old resources.new result }
-{
-    resources.row_mut(id)?.set_energy(interval, energy);
-    Ok(())
-}
-
-// The same for a tag, which only a tie has.
-#[tactic(auto, using(tables::proofs::Changed::changed_found, tables::proofs::Changed::replaced_same))]
-fn put_tag(
-    resources: &mut Table<Resource>,
-    id: u16,
-    interval: Interval,
-    tag: Tag,
-) -> Result<(), Reason>
-    ensures { TriedToChangeIf resource_id id (λ r. is_tie r.kind) (with_tag interval.place tag) resources.old resources.new result }
-{
-    let resource = resources.row_mut(id)?;
-    if !resource.kind.is_tie() {
-        return Err(Reason::Misfit);
-    }
-    resource.set_tag(interval, tag);
-    Ok(())
-}
-
-// Puts an election in its place, where the area is entered.
-#[tactic(auto, using(tables::proofs::Changed::changed_found))]
-fn put_election(areas: &mut Table<Area>, id: u16, election: Election) -> Result<(), Reason>
-    ensures { TriedToChange area_id id (with_election election) areas.old areas.new result }
-{
-    areas.row_mut(id)?.set_election(election);
-    Ok(())
-}
-
-// The same for a test.
-#[tactic(auto, using(tables::proofs::Changed::changed_found))]
-fn put_test(
-    areas: &mut Table<Area>,
-    id: u16,
-    quarter: Quarter,
-    test: SufficiencyTest,
-) -> Result<(), Reason>
-    ensures { TriedToChange area_id id (with_test quarter.place test) areas.old areas.new result }
-{
-    areas.row_mut(id)?.set_test(quarter, test);
-    Ok(())
-}
-
-// The same for transfers.
-#[tactic(auto, using(tables::proofs::Changed::changed_found))]
-fn put_transfer(
-    areas: &mut Table<Area>,
-    id: u16,
-    interval: Interval,
-    transfer: Transfer,
-) -> Result<(), Reason>
-    ensures { TriedToChange area_id id (with_transfer interval.place transfer) areas.old areas.new result }
-{
-    areas.row_mut(id)?.set_transfer(interval, transfer);
-    Ok(())
-}
-
-// Puts a demand in its place, where the party is entered and is of the CISO area.
-#[tactic(auto, using(tables::proofs::Changed::changed_found, tables::proofs::Changed::replaced_same))]
-fn put_demand(
-    parties: &mut Table<Party>,
-    id: u16,
-    areas: &Table<Area>,
-    interval: Interval,
-    demand: Volume,
-) -> Result<(), Reason>
-    ensures { TriedToChangeIf party_id id (λ p. ciso_among areas.now.rows p.area) (with_demand interval.place demand) parties.old parties.new result }
-{
-    let party = parties.row_mut(id)?;
-    check_ciso(areas, party.area)?;
-    party.set_demand(interval, demand);
-    Ok(())
-}
-
-// The same for money that is given.
-#[tactic(auto, using(tables::proofs::Changed::changed_found, tables::proofs::Changed::replaced_same))]
-fn put_given(
-    parties: &mut Table<Party>,
-    id: u16,
-    areas: &Table<Area>,
-    interval: Interval,
-    code: GivenCode,
-    amount: GivenAmount,
-) -> Result<(), Reason>
-    ensures { TriedToChangeIf party_id id (λ p. ciso_among areas.now.rows p.area) (with_given code interval.place amount) parties.old parties.new result }
-{
-    let party = parties.row_mut(id)?;
-    check_ciso(areas, party.area)?;
-    party.set_given(interval, code, amount);
-    Ok(())
-}
+use rows::{
+    ElectionPost, EnergyPost, GivenAmount, GivenCode, Interval, Quarter, TagPost, TestPost,
+    TransferPost, Volume,
+};
+use tables::{Reason, id_of};
 
 impl Hour {
     pub(crate) fn post_energy(

@@ -1,21 +1,30 @@
 // The records of an hour. Of every `Records` what `Sound` says is true.
 ghost use Rattle.std.specs.Prelude.{◌≡◌, IfOk};
-ghost use Rattle.rows.specs.Kinds.{area_kind, resource_kind};
 ghost use Rattle.charges.specs.Hours.{opened};
-ghost use Rattle.charges.specs.Calls.{answer_to, left_by};
+ghost use Rattle.charges.specs.Calls.{answer_to, left_by, refusal};
 ghost use Rattle.charges.specs.Sound.{Sound, Step, Grows, StepsKeepSound};
-ghost use Rattle.charges.specs.declared.call.Call.TheVariants.{EnterArea, EnterParty, EnterResource};
 
 use super::call::Call;
 use super::hour::Hour;
-use rows::{Area, AreaKind, Party, Resource, ResourceKind};
+use rows::{Area, Party, Resource};
 use std::alloc::{AllocError, Global};
 use std::marker::Model;
-use tables::{Part, Refusal};
+use tables::{Part, Place, Reason, Refusal};
 
 #[derive(Drop)]
 pub struct Records {
-    hour: Hour,
+    pub(super) hour: Hour,
+}
+
+// A refusal of this part.
+pub(super) fn refused(reason: Reason, place: Place) -> Refusal
+    ensures { result ≡ refusal reason place }
+{
+    Refusal {
+        reason,
+        part: Part::Charges,
+        place,
+    }
 }
 
 impl Model for Records {
@@ -56,52 +65,8 @@ impl Records {
     {
         match self.hour.take(call) {
             Ok(()) => Ok(()),
-            Err(reason) => Err(Refusal {
-                reason,
-                part: Part::Charges,
-                place: call.place(),
-            }),
+            Err(reason) => Err(refused(reason, call.place())),
         }
-    }
-
-    // Enters an area of kind `C` or `W`.
-    pub fn enter_area(&mut self, id: i64, kind: &[u8]) -> Result<(), Refusal>
-        ensures answer { result ≡ answer_to (EnterArea id (area_kind kind.now)) self.old }
-        ensures records { self.new ≡ left_by (EnterArea id (area_kind kind.now)) self.old }
-    {
-        self.take(Call::EnterArea {
-            id,
-            kind: AreaKind::named(kind),
-        })
-    }
-
-    // Enters a party of an area.
-    pub fn enter_party(&mut self, id: i64, area: i64) -> Result<(), Refusal>
-        ensures answer { result ≡ answer_to (EnterParty id area) self.old }
-        ensures records { self.new ≡ left_by (EnterParty id area) self.old }
-    {
-        self.take(Call::EnterParty { id, area })
-    }
-
-    // Enters a resource of kind `P`, `S` or `D`.
-    pub fn enter_resource(
-        &mut self,
-        id: i64,
-        owner: i64,
-        kind: &[u8],
-        net: i64,
-        exempt: i64,
-    ) -> Result<(), Refusal>
-        ensures answer { result ≡ answer_to (EnterResource id owner (resource_kind kind.now) net exempt) self.old }
-        ensures records { self.new ≡ left_by (EnterResource id owner (resource_kind kind.now) net exempt) self.old }
-    {
-        self.take(Call::EnterResource {
-            id,
-            owner,
-            kind: ResourceKind::named(kind),
-            net,
-            exempt,
-        })
     }
 
     // The areas, in the order entered.

@@ -1,5 +1,5 @@
 -- The numbers of the codes under which money is given. Assumes nothing.
-use Rattle.std.specs.Prelude.{ℕ, List, [], ◌∷◌, Option, ℤ, pos, find}
+use Rattle.std.specs.Prelude.{ℕ, [], ◌∷◌, Option, ℤ, pos, find}
 use Rattle.std.specs.Ordering.{int_eq}
 use Rattle.rows.specs.declared.given.GivenCode.{GivenCode}
 use Rattle.rows.specs.declared.given.GivenCode.TheVariants.{PassThrough, Cc6474, Cc6475}
