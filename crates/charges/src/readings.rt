@@ -18,7 +18,7 @@ impl Hour {
     {
         let id = id_of(id)?;
         let interval = Interval::numbered(interval)?;
-        Ok(self.resources.row(id)?.energy(interval))
+        Ok(self.resources.row(id)?.energy[interval.place])
     }
 
     fn tag(&self, id: i64, interval: i64) -> Result<Tag, Reason>
@@ -26,7 +26,7 @@ impl Hour {
     {
         let id = id_of(id)?;
         let interval = Interval::numbered(interval)?;
-        Ok(self.resources.row(id)?.tag(interval))
+        Ok(self.resources.row(id)?.tags[interval.place])
     }
 
     fn test(&self, id: i64, quarter: i64) -> Result<SufficiencyTest, Reason>
@@ -34,7 +34,7 @@ impl Hour {
     {
         let id = id_of(id)?;
         let quarter = Quarter::numbered(quarter)?;
-        Ok(self.areas.row(id)?.test(quarter))
+        Ok(self.areas.row(id)?.tests[quarter.place])
     }
 
     fn transfer(&self, id: i64, interval: i64) -> Result<Transfer, Reason>
@@ -42,7 +42,7 @@ impl Hour {
     {
         let id = id_of(id)?;
         let interval = Interval::numbered(interval)?;
-        Ok(self.areas.row(id)?.transfer(interval))
+        Ok(self.areas.row(id)?.transfers[interval.place])
     }
 
     fn demand(&self, id: i64, interval: i64) -> Result<Volume, Reason>
@@ -50,7 +50,7 @@ impl Hour {
     {
         let id = id_of(id)?;
         let interval = Interval::numbered(interval)?;
-        Ok(self.parties.row(id)?.demand(interval))
+        Ok(self.parties.row(id)?.demand[interval.place])
     }
 
     fn election(&self, id: i64) -> Result<Election, Reason>

@@ -1,7 +1,7 @@
 // An area, with its election of assistance energy transfers, its sufficiency tests and its transfers.
 ghost use Rattle.std.specs.Prelude.{◌≡◌};
 ghost use Rattle.rows.specs.Rows.{no_election, no_test, no_transfer, new_area};
-ghost use Rattle.rows.specs.Posted.{with_election, with_test, with_transfer, test_at, transfer_at};
+ghost use Rattle.rows.specs.Posted.{with_election, with_test, with_transfer};
 
 use super::figures::{BidCap, Volume};
 use super::kinds::AreaKind;
@@ -115,20 +115,6 @@ impl Area {
         ensures { self.new ≡ with_transfer interval.place transfer self.old }
     {
         self.transfers[interval.place] = transfer;
-    }
-
-    // The test of a quarter.
-    pub fn test(&self, quarter: Quarter) -> SufficiencyTest
-        ensures { result ≡ test_at quarter.place self.now }
-    {
-        self.tests[quarter.place]
-    }
-
-    // The transfers of an interval.
-    pub fn transfer(&self, interval: Interval) -> Transfer
-        ensures { result ≡ transfer_at interval.place self.now }
-    {
-        self.transfers[interval.place]
     }
 }
 

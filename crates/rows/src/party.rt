@@ -1,7 +1,7 @@
 // A party, with its demand and the money given for it.
 ghost use Rattle.std.specs.Prelude.{◌≡◌};
 ghost use Rattle.rows.specs.Rows.{nothing_given, new_party};
-ghost use Rattle.rows.specs.Posted.{with_demand, with_given, demand_at, given_at};
+ghost use Rattle.rows.specs.Posted.{with_demand, with_given, given_at};
 
 use super::figures::{GivenAmount, Volume};
 use super::given::GivenCode;
@@ -69,13 +69,6 @@ impl Party {
             GivenCode::Cc6474 => self.given.cc_6474[interval.place] = amount,
             GivenCode::Cc6475 => self.given.cc_6475[interval.place] = amount,
         }
-    }
-
-    // The demand of an interval.
-    pub fn demand(&self, interval: Interval) -> Volume
-        ensures { result ≡ demand_at interval.place self.now }
-    {
-        self.demand[interval.place]
     }
 
     // What is given in an interval under a code.

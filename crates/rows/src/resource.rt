@@ -1,7 +1,7 @@
 // A resource, with the energy, the tag and the deemed energy of each of its intervals.
 ghost use Rattle.std.specs.Prelude.{◌≡◌};
 ghost use Rattle.rows.specs.Rows.{no_energy, new_resource};
-ghost use Rattle.rows.specs.Posted.{with_energy, with_tag, energy_at, tag_at};
+ghost use Rattle.rows.specs.Posted.{with_energy, with_tag};
 
 use super::dispatch::DispatchType;
 use super::figures::{Energy, Price};
@@ -95,20 +95,6 @@ impl Resource {
         ensures { self.new ≡ with_tag interval.place tag self.old }
     {
         self.tags[interval.place] = tag;
-    }
-
-    // The energy record of an interval.
-    pub fn energy(&self, interval: Interval) -> EnergyRecord
-        ensures { result ≡ energy_at interval.place self.now }
-    {
-        self.energy[interval.place]
-    }
-
-    // The tag of an interval.
-    pub fn tag(&self, interval: Interval) -> Tag
-        ensures { result ≡ tag_at interval.place self.now }
-    {
-        self.tags[interval.place]
     }
 }
 
