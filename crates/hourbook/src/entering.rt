@@ -1,4 +1,4 @@
-// Enters the areas, the parties and a resource of a sample hour, and meets each refusal that entering knows.
+// Enters the areas, the parties and the resources of a sample hour, and meets each refusal that entering knows.
 ghost use Rattle.std.specs.Prelude.{◌≡◌};
 ghost use Rattle.charges.specs.Calls.{answer_to, left_by};
 ghost use Rattle.hourbook.specs.Entering.{call_of};
@@ -10,7 +10,7 @@ use tables::{HasId, Refusal};
 
 // A call as it is said.
 #[derive(Clone, Copy)]
-pub(super) enum Entry {
+enum Entry {
     Area {
         id: i64,
         kind: &'static str,
@@ -31,10 +31,10 @@ pub(super) const AREAS: usize = 2;
 
 pub(super) const PARTIES: usize = 3;
 
-pub(super) const RESOURCES: usize = 1;
+pub(super) const RESOURCES: usize = 2;
 
-// The first six are accepted; then comes a refusal of each number from 2 to 7.
-pub(super) const ENTRIES: [Entry; 12] = [
+// The first seven are accepted; then comes a refusal of each number from 2 to 7.
+const ENTRIES: [Entry; 13] = [
     Entry::Area { id: 1, kind: "C" },
     Entry::Area { id: 2, kind: "W" },
     Entry::Party { id: 7, area: 1 },
@@ -44,6 +44,11 @@ pub(super) const ENTRIES: [Entry; 12] = [
         id: 20,
         owner: 7,
         kind: "P",
+    },
+    Entry::Resource {
+        id: 30,
+        owner: 9,
+        kind: "D",
     },
     Entry::Area {
         id: 65_536,
@@ -61,7 +66,7 @@ pub(super) const ENTRIES: [Entry; 12] = [
     Entry::Area { id: 3, kind: "W" },
 ];
 
-pub(super) const ENTRIES_HEADER: &str = "call         id    of  kind  outcome";
+const ENTRIES_HEADER: &str = "call         id    of  kind  outcome";
 
 // An entry, and what became of it.
 #[derive(Clone, Copy)]
@@ -100,19 +105,23 @@ fn enter(records: &mut Records, entry: Entry) -> Result<(), Refusal>
     }
 }
 
+pub(super) fn print_entries(out: &mut impl Write, records: &mut Records) -> io::Result<()> {
+    writeln!(out, "\n{ENTRIES_HEADER}")?;
+    for entry in ENTRIES {
+        print_entered(out, records, entry)?;
+    }
+    print_tables(out, records)
+}
+
 // Makes the call, and prints the row.
-pub(super) fn print_entered(
-    out: &mut impl Write,
-    records: &mut Records,
-    entry: Entry,
-) -> io::Result<()> {
+fn print_entered(out: &mut impl Write, records: &mut Records, entry: Entry) -> io::Result<()> {
     let outcome = enter(records, entry);
     let row = Row { entry, outcome };
     writeln!(out, "{row}")
 }
 
 // The ids that each table holds, in the order entered.
-pub(super) fn print_tables(out: &mut impl Write, records: &Records) -> io::Result<()> {
+fn print_tables(out: &mut impl Write, records: &Records) -> io::Result<()> {
     print_ids(out, "areas", records.areas())?;
     print_ids(out, "parties", records.parties())?;
     print_ids(out, "resources", records.resources())

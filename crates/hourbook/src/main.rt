@@ -1,17 +1,21 @@
-// Shares some pools of money, and then the energy of some ties' hours, under both rules; then enters the records of an hour.
+// Shares some pools of money, and then the energy of some ties' hours, under both rules; then enters the areas, parties and
+// resources of an hour, posts its records and reads them back.
 #![tactic(auto)]
 
 mod entering;
 mod parties;
 mod pools;
+mod posting;
+mod sample;
 mod table;
 mod tags;
 mod ties;
 
 use anyhow::Context;
 use charges::Records;
-use entering::{AREAS, ENTRIES, ENTRIES_HEADER, PARTIES, RESOURCES, print_entered, print_tables};
+use entering::{AREAS, PARTIES, RESOURCES, print_entries};
 use pools::{POOLS, SamplePool, enter_parties};
+use posting::print_posts;
 use sharing::{LargestRemainder, Running};
 use std::io::{BufWriter, Write};
 use table::{HEADER, print_shared};
@@ -37,11 +41,8 @@ fn run(rt: &HostRuntime) -> anyhow::Result<()> {
         print_tie(&mut out, tags)?;
     }
     let mut records = Records::open(rt.alloc(), AREAS, PARTIES, RESOURCES)?;
-    writeln!(out, "\n{ENTRIES_HEADER}")?;
-    for entry in ENTRIES {
-        print_entered(&mut out, &mut records, entry)?;
-    }
-    print_tables(&mut out, &records)?;
+    print_entries(&mut out, &mut records)?;
+    print_posts(&mut out, &mut records)?;
     out.flush()?;
     Ok(())
 }
