@@ -1,12 +1,14 @@
 #!/usr/bin/env python3
 """Writes the cases (stdin) and what they should give (stdout), from docs/records.md and docs/refusals.md, not from the program.
 
-A line is a call, its words parted by one space; `-` is the empty word. `open` begins anew, with so many rows of each table.
+A line is a call, its words parted by one space; `-` is the empty word, and `.` no word at all. `open` begins anew, with so many rows
+of each table. A posting call is named by its kind of record, and so is a reading call, behind `read`.
 """
 import random
 from collections import defaultdict
-from itertools import combinations
+from itertools import combinations, product
 from pathlib import Path
+from typing import NamedTuple
 
 HERE = Path(__file__).parent
 
@@ -14,63 +16,190 @@ SPAN = range(1, 65_536)
 FULL = {"area": 16, "party": 64, "resource": 128}
 LEAST, MOST = -(2**63), 2**63 - 1
 
-# the reasons of each call, and the pairs of them that never fit at once
-REASONS = {"area": (2, 3, 5, 6, 7), "party": (2, 4, 5, 6, 7), "resource": (2, 3, 4, 5, 6, 7)}
-APART = {"area": {(2, 5), (3, 6)}, "party": {(4, 6)}, "resource": {(4, 6)}}
+PRICES = range(-500_000_000, 500_000_001)
+BID_CAPS = range(500_000_001)
+ENERGIES = range(-10_000_000, 10_000_001)
+VOLUMES = range(10_000_001)
+TELEMETRY = range(100_000_001)
+AMOUNTS = range(-1_000_000_000, 1_000_000_001)
+FLAGS = range(2)
+# with None, which is no word at all
+TYPES = (
+    *("SYSEMR", "SYSEMR1", "TEMR", "TMODEL", "TMODEL1", "TMODEL2", "TMODEL3", "TMODEL4", "TMODEL5", "TMODEL6", "TMODEL7", "TMODEL8"),
+    *("TMODEL9", "TORETC", "TORETC1", "RMRR", "RMRS", "RMRT", "SLIC", "OTHER", "NONTMOD", "ASTEST", "TEST", None),
+)
+INTERVALS, QUARTERS = range(1, 13), range(1, 5)
+CODES = (6470, 6474, 6475)
+
+
+class Kind(NamedTuple):
+    """A kind of record: the table whose rows have it, what its key has behind the row's id, and its fields."""
+
+    table: str
+    key: tuple
+    fields: dict
+
+
+KINDS = {
+    "energy": Kind(
+        "resource",
+        (INTERVALS,),
+        dict.fromkeys(("lmp", "mss", "resprice", "edprice"), PRICES)
+        | dict.fromkeys(("iie", "oa", "mssiie", "res", "above", "edqty"), ENERGIES)
+        | {"resflag": FLAGS, "ed": TYPES},
+    ),
+    "tag": Kind("resource", (INTERVALS,), {"kw": ENERGIES, "telemetry": TELEMETRY, "curtailed": FLAGS}),
+    "election": Kind("area", (), {"in": FLAGS, "cap": BID_CAPS, "up": VOLUMES, "nopay": VOLUMES}),
+    "test": Kind("area", (QUARTERS,), dict.fromkeys(("capacity", "ramp", "nopay"), VOLUMES)),
+    "transfer": Kind("area", (INTERVALS,), dict.fromkeys(("to", "baseto", "from", "basefrom"), VOLUMES)),
+    "demand": Kind("party", (INTERVALS,), {"units": VOLUMES}),
+    "given": Kind("party", (INTERVALS, CODES), {"cents": AMOUNTS}),
+}
+
+# the clauses of each call, which begin with the number of their reason
+CLAUSES = {
+    "area": ("2", "3", "5", "6", "7"),
+    "party": ("2", "4", "5", "6", "7"),
+    "resource": ("2", "3", "4", "5", "6", "7"),
+    "energy": ("2 id", "2 slot", "3 field", "4"),
+    "tag": ("2 id", "2 slot", "3 field", "4", "6"),
+    "election": ("2 id", "3 field", "3 nopay", "4"),
+    "test": ("2 id", "2 slot", "3 field", "3 nopay", "4"),
+    "transfer": ("2 id", "2 slot", "3 field", "4"),
+    "demand": ("2 id", "2 slot", "3 field", "4", "6"),
+    "given": ("2 id", "2 slot", "3 code", "3 field", "4", "6"),
+    "read energy": ("2 id", "2 slot", "4"),
+    "read tag": ("2 id", "2 slot", "4"),
+    "read election": ("2 id", "4"),
+    "read test": ("2 id", "2 slot", "4"),
+    "read transfer": ("2 id", "2 slot", "4"),
+    "read demand": ("2 id", "2 slot", "4"),
+    "read given": ("2 id", "2 slot", "3 code", "4"),
+}
+# the pairs of them that never fit at once
+APART = {"area": {("2", "5"), ("3", "6")}, "party": {("4", "6")}, "resource": {("4", "6")}}
+APART_IN_POSTS = {("2 id", "3 nopay"), ("2 id", "6"), ("3 nopay", "4"), ("4", "6")}
 
 # where a number is outside: some of these would be 0 or 1 if they were cut
 OUTSIDE = (0, -1, -65_535, 65_536, 65_537, 2**32 + 1, MOST, LEAST)
 NO_FLAGS = (-1, 2, 256, 2**32 + 1, MOST, LEAST)
 NO_AREA_KINDS = ("-", "c", "w", "P", "S", "D", "X", "0", "CC", "CW", "WC", "CISO", "WEIM", "c1", "Ç")
 NO_RESOURCE_KINDS = ("-", "p", "s", "d", "C", "W", "X", "1", "PP", "PS", "DS", "SD", "Ś")
+NO_SLOTS = (0, -1, -255, 257, 65_537, -65_535, 2**32 + 1, MOST, LEAST)
+NO_CODES = (0, 1, 70, 74, 75, 6469, 6471, 6473, 6476, 6477, -6470, 6470 + 2**16, 6474 - 2**16, 6475 + 2**32, MOST, LEAST)
+NO_TYPES = (
+    *("", "TMODEL0", "TMODEL00", "TMODEL01", "TMODEL10", "TMODEL19", "TMODEL:", "TMODEL/", "TMODEL-1", "SYSEMR0", "SYSEMR2"),
+    *("TORETC2", "RMR", "RMRA", "RMRQ", "RMRU", "TEMR1", "SLIC1", "NONTEST", "ASTMOD", "TMOD", "AS", "NONE", "FIRST", "0", "1"),
+    *("..", "TEMR.", "Temr", "TEMRTEMR", "TEMR" + 256 * "X", 256 * "X", "ÅSTEST"),
+)
+
+
+def outside(values):
+    """Numbers outside a field's values. Some of them would be inside if they were cut."""
+    first, last = values[0], values[-1]
+    return [*(number for far in (1, 2**8, 2**16, 2**32) for number in (first - far, last + far)), MOST, LEAST]
+
+
+def nothing(record):
+    """The fields of a record that was never posted."""
+    return {name: None if values is TYPES else 0 for name, values in KINDS[record].fields.items()}
+
+
+def shown(argument):
+    return {"": "-", None: "."}.get(argument, str(argument))
 
 
 class Records:
-    """Each table's rows by their ids, in the order entered. A row has a list of what stands behind its id."""
+    """Each table's rows by their ids, in the order entered, a row with a list of what stands behind its id; and what is posted."""
 
     def __init__(self, *rows):
         self.rows = {table: min(asked, full) for asked, (table, full) in zip(rows, FULL.items())}
         self.areas, self.parties, self.resources = {}, {}, {}
+        self.tables = {"area": self.areas, "party": self.parties, "resource": self.resources}
+        self.posted = {}
+
+    def outside_c(self, party):
+        """Whether it is entered and no party of the C area."""
+        return party in self.parties and self.areas[self.parties[party][0]] != ["C"]
 
     def about_area(self, id, kind):
         return {
-            2: id not in SPAN,
-            3: kind not in ("C", "W"),
-            5: id in self.areas,
-            6: kind == "C" and ["C"] in self.areas.values(),
-            7: len(self.areas) == self.rows["area"],
+            "2": id not in SPAN,
+            "3": kind not in ("C", "W"),
+            "5": id in self.areas,
+            "6": kind == "C" and ["C"] in self.areas.values(),
+            "7": len(self.areas) == self.rows["area"],
         }
 
     def about_party(self, id, area):
         return {
-            2: id not in SPAN or area not in SPAN,
-            4: area not in self.areas,
-            5: id in self.parties,
-            6: self.areas.get(area) == ["W"] and [area] in self.parties.values(),
-            7: len(self.parties) == self.rows["party"],
+            "2": id not in SPAN or area not in SPAN,
+            "4": area not in self.areas,
+            "5": id in self.parties,
+            "6": self.areas.get(area) == ["W"] and [area] in self.parties.values(),
+            "7": len(self.parties) == self.rows["party"],
         }
 
     def about_resource(self, id, owner, kind, net, exempt):
         return {
-            2: id not in SPAN or owner not in SPAN,
-            3: kind not in ("P", "S", "D") or net not in (0, 1) or exempt not in (0, 1),
-            4: owner not in self.parties,
-            5: id in self.resources,
-            6: owner in self.parties and self.areas[self.parties[owner][0]] != ["C"],
-            7: len(self.resources) == self.rows["resource"],
+            "2": id not in SPAN or owner not in SPAN,
+            "3": kind not in ("P", "S", "D") or net not in (0, 1) or exempt not in (0, 1),
+            "4": owner not in self.parties,
+            "5": id in self.resources,
+            "6": self.outside_c(owner),
+            "7": len(self.resources) == self.rows["resource"],
         }
 
-    def enter(self, call, id, *rest):
-        """All reasons that fit. Where there is none, the row is entered."""
-        about, table = {
-            "area": (self.about_area, self.areas),
-            "party": (self.about_party, self.parties),
-            "resource": (self.about_resource, self.resources),
-        }[call]
-        reasons = [reason for reason, fits in about(id, *rest).items() if fits]
-        if not reasons:
-            table[id] = list(rest)
-        return reasons
+    def about_reading(self, record, id, slot=None, code=None):
+        table, key, _ = KINDS[record]
+        return {
+            "2 id": id not in SPAN,
+            "2 slot": len(key) > 0 and slot not in key[0],
+            "3 code": len(key) > 1 and code not in key[1],
+            "4": id not in self.tables[table],
+        }
+
+    def about_posting(self, record, key, fields):
+        id, wanted = key[0], KINDS[record].fields
+        return self.about_reading(record, *key) | {
+            "3 field": any(field not in values for field, values in zip(fields, wanted.values(), strict=True)),
+            "3 nopay": "nopay" in wanted and self.areas.get(id) == ["W"] and fields[-1] != 0,
+            "6": self.misfits(record, id),
+        }
+
+    def misfits(self, record, id):
+        if record == "tag":
+            return id in self.resources and self.resources[id][1] == "P"
+        return record in ("demand", "given") and self.outside_c(id)
+
+    def enter(self, table, id, *rest):
+        about = {"area": self.about_area, "party": self.about_party, "resource": self.about_resource}[table](id, *rest)
+        if not any(about.values()):
+            self.tables[table][id] = list(rest)
+        return about, "ok"
+
+    def post(self, record, *arguments):
+        length = 1 + len(KINDS[record].key)
+        key, fields = arguments[:length], arguments[length:]
+        about = self.about_posting(record, key, fields)
+        if not any(about.values()):
+            self.posted[record, *key] = fields
+        return about, "ok"
+
+    def read(self, record, *key):
+        fields = self.posted.get((record, *key), nothing(record).values())
+        return self.about_reading(record, *key), " ".join(map(shown, fields))
+
+    def take(self, call, arguments):
+        """The clauses that fit, and the line that the call gives. Where none fits, the call is made."""
+        *reading, name = call.split(" ")
+        act = self.read if reading else self.post if name in KINDS else self.enter
+        about, line = act(name, *arguments)
+        fitting = sorted(clause for clause, fits in about.items() if fits)
+        if fitting:
+            slot = arguments[1] if name in KINDS and KINDS[name].key else 0
+            line = f"refused {fitting[0][0]} part 3 interval {slot} id {arguments[0]}"
+        return fitting, line
 
     def lines(self):
         tables = {"areas": self.areas, "parties": self.parties, "resources": self.resources}
@@ -79,14 +208,14 @@ class Records:
 
 
 def arguments(call, words):
-    """All are numbers, but for the word of a kind."""
-    word = {"area": 1, "party": None, "resource": 2}[call]
+    """All are numbers, but for the word of a kind or a type."""
+    word = {"area": 1, "resource": 2, "energy": 13}.get(call)
     given = [text if place == word else int(text) for place, text in enumerate(words)]
-    return ["" if argument == "-" else argument for argument in given]
+    return [{"-": "", ".": None}.get(argument, argument) for argument in given]
 
 
 def expected(cases):
-    """The lines that are wanted. Each pair of reasons that can fit at once must be among the cases."""
+    """The lines that are wanted. Each pair of clauses that can fit at once must be among the cases."""
     met = defaultdict(set)
     records = None
     for line in cases:
@@ -96,13 +225,15 @@ def expected(cases):
                 yield from records.lines()
             records = Records(*map(int, words))
             continue
-        id, *rest = arguments(call, words)
-        reasons = records.enter(call, id, *rest)
-        met[call].update(combinations(reasons, 2))
-        yield f"refused {min(reasons)} part 3 interval 0 id {id}" if reasons else "ok"
+        if call == "read":
+            record, *words = words
+            call = f"read {record}"
+        fitting, answer = records.take(call, arguments(call, words))
+        met[call].update(combinations(fitting, 2))
+        yield answer
     yield from records.lines()
-    for call, reasons in REASONS.items():
-        assert met[call] == set(combinations(reasons, 2)) - APART[call], (call, met[call])
+    for call, clauses in CLAUSES.items():
+        assert met[call] == set(combinations(clauses, 2)) - APART.get(call, APART_IN_POSTS), (call, met[call])
 
 
 def area_edges():
@@ -185,7 +316,7 @@ def drawn(draw):
     """At first most are areas and parties, then most are resources, so that each call is accepted and refused in many ways."""
     for _ in range(6):
         yield f"open {draw.randint(2, 3)} {draw.randint(2, 3)} {draw.randint(1, 3)}"
-        for call in draw.choices(list(REASONS), [3, 4, 0], k=12) + draw.choices(list(REASONS), [1, 1, 4], k=14):
+        for call in draw.choices(list(FULL), [3, 4, 0], k=12) + draw.choices(list(FULL), [1, 1, 4], k=14):
             id, other = draw.choices(range(5), [1, 8, 8, 4, 1], k=2)
             net, exempt = draw.choices(range(3), [10, 10, 1], k=2)
             words = {
@@ -196,9 +327,165 @@ def drawn(draw):
             yield " ".join(map(str, [call, *words[call]]))
 
 
+# In each table the ids 1, 7 and 65,535. A row with the id 1 takes every kind of record, and 7 is of a W area or plain.
+BOOK = (
+    *("open 4 5 4", "area 65535 W", "area 7 W", "area 1 C", "party 65535 1", "party 7 7", "party 1 1"),
+    *("resource 65535 1 D 0 1", "resource 7 65535 P 1 0", "resource 1 1 S 0 0"),
+)
+
+
+def post(record, key, fields):
+    """A line. Fields that are not given are 0, and the type absent."""
+    return " ".join([record, *map(shown, [*key, *(nothing(record) | fields).values()])])
+
+
+def read(record, key):
+    return " ".join(["read", record, *map(str, key)])
+
+
+def post_and_read(record, key, fields):
+    return post(record, key, fields), read(record, key)
+
+
+def first_key(record, id):
+    return (id, *(part[0] for part in KINDS[record].key))
+
+
+def keys(*ids):
+    """All keys of the rows with these ids."""
+    return [(record, key) for record, kind in KINDS.items() for key in product(ids, *kind.key)]
+
+
+def marked(record, mark):
+    """Fields whose numbers tell for which post and in which place they are given."""
+    numbered = enumerate(KINDS[record].fields.items(), 13 * mark)
+    return {
+        name: values[number % len(values)] if values in (FLAGS, TYPES) else number for number, (name, values) in numbered
+    }
+
+
+def field_edges():
+    """Each field alone, so that a post shows whether it keeps anything of the one before."""
+    yield from BOOK
+    for record, kind in KINDS.items():
+        key = first_key(record, 1)
+        for name, values in kind.fields.items():
+            if values is not TYPES:
+                yield from post_and_read(record, key, {name: values[0]})
+                yield from post_and_read(record, key, {name: values[-1]})
+                yield from (post(record, key, {name: number}) for number in outside(values))
+                yield read(record, key)
+
+
+def dispatch_types():
+    yield from BOOK
+    for word in TYPES:
+        yield from post_and_read("energy", (7, 5), {"ed": word})
+    yield from post_and_read("energy", (7, 5), {"edqty": 1, "ed": "TEST"})
+    words = [word for word in TYPES if word]
+    near = [other for word in words for other in (word.lower(), word[:-1], word[1:], word + "X", "X" + word)]
+    missed = [word for word in dict.fromkeys((*near, *NO_TYPES)) if word not in TYPES]
+    yield from (post("energy", (7, 5), {"ed": word}) for word in missed)
+    yield read("energy", (7, 5))
+    yield from post_and_read("energy", (7, 5), {"edqty": 1})
+
+
+def codes():
+    yield from BOOK
+    yield from (post("given", (1, 5, code), {"cents": code}) for code in CODES)
+    yield from (post("given", (1, 5, code), {"cents": 1}) for code in NO_CODES)
+    yield from (read("given", (1, interval, code)) for interval in (4, 5, 6) for code in CODES)
+    yield from (read("given", (1, 5, code)) for code in NO_CODES)
+
+
+def span_edges():
+    """What is posted first would be changed or read where an id or a slot outside was cut."""
+    yield from BOOK
+    for record, kind in KINDS.items():
+        first, last = first_key(record, 1), (65_535, *(part[-1] for part in kind.key))
+        name = list(kind.fields)[0]
+        yield from post_and_read(record, first, {name: 1})
+        yield from post_and_read(record, last, {name: 1})
+        far = [(id, *first[1:]) for id in OUTSIDE]
+        for slots in kind.key[:1]:
+            far += [(1, slot, *first[2:]) for slot in (*NO_SLOTS, slots.stop, slots.stop + 7, 256 + slots[-1])]
+        yield from (post(record, key, {}) for key in far)
+        yield from (read(record, key) for key in (first, last, *far))
+
+
+def clause_pairs():
+    """The row 99 is not entered."""
+    yield from BOOK
+    for record, (_, parts, fields) in KINDS.items():
+        name = "nopay" if "nopay" in fields else list(fields)[0]
+        tried = [{name: number} for number in (1, fields[name][0] - 1, 0)] + [{"ed": "TESTS"}] * ("ed" in fields)
+        for key in product((0, 99, 7, 1), *((0, part[1]) for part in parts)):
+            yield from (post(record, key, some) for some in tried)
+            yield read(record, key)
+
+
+def misfits():
+    """Row 99 is entered in the midst, of a W area or plain."""
+    yield from BOOK
+    for row in ((), ("area 99 W", "party 99 99", "resource 99 1 P 0 0")):
+        yield from row
+        for record, id, nopay in product(("election", "test"), (1, 7, 99), (65_536, VOLUMES[-1], 0)):
+            fields = dict.fromkeys(KINDS[record].fields, 1) | {"nopay": nopay}
+            yield from post_and_read(record, first_key(record, id), fields)
+        for record, id in product(("tag", "demand", "given"), (1, 7, 65_535, 99)):
+            fields = dict.fromkeys(KINDS[record].fields, 1)
+            yield from post_and_read(record, first_key(record, id), fields)
+
+
+def own_records(draw):
+    """Each key has a record of its own, which stays when another is posted and when rows are entered."""
+    yield from BOOK
+    all_keys = keys(1, 7, 65_535)
+    yield from (read(record, first_key(record, 1)) for record in KINDS)
+    for mark, (record, key) in enumerate(draw.sample(all_keys, len(all_keys))):
+        unpaid = {"nopay": 0} if record in ("election", "test") and key[0] != 1 else {}
+        yield post(record, key, marked(record, mark) | unpaid)
+    yield from (read(record, key) for record, key in all_keys)
+    yield from ("area 99 W", "party 98 99", "party 99 1", "resource 99 99 S 1 1")
+    yield from (post(record, first_key(record, 1), {}) for record in KINDS)
+    yield from (read(record, key) for record, key in all_keys)
+    yield from (read(record, first_key(record, 99)) for record in KINDS)
+
+
+def drawn_field(draw, name, values):
+    if values is TYPES:
+        return draw.choice((*TYPES, None, None, "", "test"))
+    inside = 0 if name == "nopay" else draw.randrange(values.start, values.stop)
+    return draw.choice((inside, inside, 0, values[0], values[-1]) * 12 + (values[0] - 1, values[-1] + 1))
+
+
+def drawn_entry(draw):
+    id, other = draw.choices(range(1, 4), k=2)
+    return draw.choice((f"area {id} {draw.choice('CCW')}", f"party {id} {other}", f"resource {id} {other} {draw.choice('PSD')} 0 1"))
+
+
+def drawn_call(draw):
+    """Of the intervals, quarters and codes three are drawn most, so that records are often replaced."""
+    record, kind = draw.choice(list(KINDS.items()))
+    id = draw.choice(5 * (1, 2, 3) + (0,))
+    key = (id, *(draw.choice(4 * (*part[:2], part[-1]) + (*part, 0, 5)) for part in kind.key))
+    fields = {name: drawn_field(draw, name, values) for name, values in kind.fields.items()}
+    return draw.choices((drawn_entry(draw), post(record, key, fields), read(record, key)), [1, 10, 5])[0]
+
+
+def drawn_posts(draw):
+    """Rows are entered in the midst of posts. At the end each record of each row is read."""
+    yield "open 3 3 3"
+    yield from (drawn_call(draw) for _ in range(900))
+    yield from (read(record, key) for record, key in keys(1, 2, 3))
+
+
 def main():
-    by_hand = (area_edges, area_pairs, party_edges, party_pairs, resource_edges, resource_pairs, few_rows, many_rows)
-    cases = [line for lines in by_hand for line in lines()] + list(drawn(random.Random(180)))
+    rows = (area_edges, area_pairs, party_edges, party_pairs, resource_edges, resource_pairs, few_rows, many_rows)
+    posts = (field_edges, dispatch_types, codes, span_edges, clause_pairs, misfits)
+    cases = [line for lines in rows for line in lines()] + list(drawn(random.Random(180)))
+    cases += [line for lines in posts for line in lines()]
+    cases += [*own_records(random.Random(181)), *drawn_posts(random.Random(184))]
     with open(HERE / "stdin", "w", encoding="utf-8") as given, open(HERE / "stdout", "w", encoding="utf-8") as wanted:
         print(*cases, sep="\n", file=given)
         print(*expected(cases), sep="\n", file=wanted)
