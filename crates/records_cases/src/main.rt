@@ -1,8 +1,13 @@
 // Makes the calls of the input on the records of hours, to be compared with an independent calculation.
 #![tactic(auto)]
 
-use anyhow::{Context, bail};
+mod posting;
+mod reading;
+
+use anyhow::Context;
 use charges::Records;
+use posting::post;
+use reading::print_reading;
 use rows::{AreaKind, Resource, ResourceKind};
 use std::alloc::Global;
 use std::array;
@@ -10,10 +15,10 @@ use std::io::{self, BufRead, BufReader, BufWriter, Write};
 use tables::Refusal;
 
 // The most words that a line has.
-const WORDS: usize = 6;
+const WORDS: usize = 15;
 
-// The word of a kind, as it is given. A line shows the empty word as a dash.
-fn kind_word(word: &str) -> &[u8] {
+// The word of a kind or a type, as it is given. A line shows the empty word as a dash.
+fn word_bytes(word: &str) -> &[u8] {
     if word == "-" { b"" } else { word.as_bytes() }
 }
 
@@ -24,19 +29,22 @@ fn words_of(line: &str) -> Option<[&str; WORDS]> {
     words.next().is_none().then_some(first)
 }
 
-// Makes a call, and gives what came of it.
-fn enter(records: &mut Records, words: [&str; WORDS]) -> anyhow::Result<Result<(), Refusal>> {
+// Enters a row, or posts a record, and gives what came of it.
+fn enter_or_post(
+    records: &mut Records,
+    words: [&str; WORDS],
+) -> anyhow::Result<Result<(), Refusal>> {
     Ok(match words {
-        ["area", id, kind, ..] => records.enter_area(id.parse()?, kind_word(kind)),
+        ["area", id, kind, ..] => records.enter_area(id.parse()?, word_bytes(kind)),
         ["party", id, area, ..] => records.enter_party(id.parse()?, area.parse()?),
-        ["resource", id, owner, kind, net, exempt] => records.enter_resource(
+        ["resource", id, owner, kind, net, exempt, ..] => records.enter_resource(
             id.parse()?,
             owner.parse()?,
-            kind_word(kind),
+            word_bytes(kind),
             net.parse()?,
             exempt.parse()?,
         ),
-        _ => bail!("no such call"),
+        _ => post(records, words)?,
     })
 }
 
@@ -97,7 +105,7 @@ fn take_line(
     current: &mut Option<Records>,
     line: &str,
 ) -> anyhow::Result<()> {
-    let words = words_of(line).context("a call has six words at most")?;
+    let words = words_of(line).context("a call has fifteen words at most")?;
     if let ["open", areas, parties, resources, ..] = words {
         if let Some(records) = current {
             print_tables(out, records)?;
@@ -106,7 +114,10 @@ fn take_line(
         return Ok(());
     }
     let records = current.as_mut().context("no records are open")?;
-    print_outcome(out, enter(records, words)?)?;
+    if let ["read", ..] = words {
+        return print_reading(out, records, words);
+    }
+    print_outcome(out, enter_or_post(records, words)?)?;
     Ok(())
 }
 
