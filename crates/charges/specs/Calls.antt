@@ -19,7 +19,7 @@ use Rattle.rows.specs.Figures.{is_volume, is_given, as_volume, as_given}
 use Rattle.rows.specs.Codes.{given_code}
 use Rattle.rows.specs.Posts.{energy_fits, tag_fits, election_fits, test_fits, transfer_fits, energy_record, tag_record, election_record, test_record, transfer_record}
 use Rattle.rows.specs.Posted.{with_election, with_test, with_transfer, with_demand, with_given, with_energy, with_tag}
-use Rattle.charges.specs.Hours.{area_id, party_id, resource_id, area_of, party_of, resource_of, area_is_weim, party_is_of_ciso, resource_is_tie, nopay_fits, any_ciso, any_party_in}
+use Rattle.charges.specs.Hours.{area_id, party_id, resource_id, area_of, party_of, resource_of, area_is_weim, party_is_of_ciso, resource_is_tie, nopay_fits_at, any_ciso, any_party_in}
 
 -- the reasons for which a call is refused, in the order of their numbers
 abbrev pub reasons : Call → Hour → List (Fit Reason)
@@ -65,14 +65,14 @@ reasons (PostTag id interval post) h =
 reasons (PostElection id post) h =
     OutsideSpan unless is_id id
     ∷ OutsideValues unless election_fits post
-    ∷ OutsideValues unless nopay_fits h (as_id id) post.nopay
+    ∷ OutsideValues unless nopay_fits_at h (as_id id) (election_record post).nopay
     ∷ NotEntered unless is_some (area_of h (as_id id))
     ∷ []
 reasons (PostTest id quarter post) h =
     OutsideSpan unless is_id id
     ∷ OutsideSpan unless is_quarter quarter
     ∷ OutsideValues unless test_fits post
-    ∷ OutsideValues unless nopay_fits h (as_id id) post.nopay
+    ∷ OutsideValues unless nopay_fits_at h (as_id id) (test_record post).nopay
     ∷ NotEntered unless is_some (area_of h (as_id id))
     ∷ []
 reasons (PostTransfer id interval post) h =

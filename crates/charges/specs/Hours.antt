@@ -1,9 +1,11 @@
 -- The tables of an hour, and what is looked up in them. Assumes nothing.
-use Rattle.std.specs.Prelude.{ℕ, ◌==◌, min, Bool, false, not, ◌||◌, ℤ, pos, List, Option}
+use Rattle.std.specs.Prelude.{ℕ, ◌==◌, min, Bool, true, false, not, ◌||◌, pos, List, Option}
 use Rattle.std.specs.List.{list_any}
 use Rattle.std.specs.Option.{option_map_or}
 use Rattle.std.specs.Ordering.{int_eq}
 use Rattle.tables.specs.Tables as tables
+use Rattle.rows.specs.declared.figures.Volume.{Volume}
+use Rattle.rows.specs.declared.kinds.AreaKind.{AreaKind}
 use Rattle.rows.specs.declared.area.Area.{Area}
 use Rattle.rows.specs.declared.party.Party.{Party}
 use Rattle.rows.specs.declared.resource.Resource.{Resource}
@@ -59,8 +61,12 @@ abbrev pub resource_is_tie : Hour → ℕ → Bool
 resource_is_tie h id = option_map_or (λ r. is_tie r.kind) (resource_of h id) false
 
 -- a WEIM area has no nopay but 0
-abbrev pub nopay_fits : Hour → ℕ → ℤ → Bool
-nopay_fits h area nopay = int_eq nopay (pos 0) || not (area_is_weim h area)
+unfoldable pub nopay_fits : Volume → AreaKind → Bool
+nopay_fits nopay kind = int_eq nopay.units.0 (pos 0) || is_ciso kind
+
+-- whether it fits where the area with an id is entered
+abbrev pub nopay_fits_at : Hour → ℕ → Volume → Bool
+nopay_fits_at h id nopay = option_map_or (λ a. nopay_fits nopay a.kind) (area_of h id) true
 
 -- whether some area is the CISO area
 abbrev pub any_ciso : List Area → Bool

@@ -1,16 +1,26 @@
 // Puts records in their places, where the row that they are posted for is entered.
+ghost use Rattle.std.specs.Prelude.{◌≡◌};
 ghost use Rattle.tables.specs.Tables.{TriedToChange, TriedToChangeIf};
+ghost use Rattle.tables.specs.declared.refusal.Reason.TheVariants.{Misfit, OutsideValues};
 ghost use Rattle.rows.specs.Kinds.{is_tie};
 ghost use Rattle.rows.specs.Posted.{with_election, with_test, with_transfer, with_demand, with_given, with_energy, with_tag};
-ghost use Rattle.charges.specs.Hours.{area_id, party_id, resource_id, ciso_among};
+ghost use Rattle.charges.specs.Hours.{area_id, party_id, resource_id, ciso_among, nopay_fits};
 
 use super::entering::check_ciso;
 use deemed::Tag;
 use rows::{
-    Area, Election, EnergyRecord, GivenAmount, GivenCode, Interval, Party, Quarter, Resource,
-    SufficiencyTest, Transfer, Volume,
+    Area, AreaKind, Election, EnergyRecord, GivenAmount, GivenCode, Interval, Party, Quarter,
+    Resource, SufficiencyTest, Transfer, Volume,
 };
 use tables::{Reason, Table};
+
+// A WEIM area has no nopay but 0.
+#[tactic(auto, unfolding(crate::specs::Hours::nopay_fits))]
+fn nopay_fits(nopay: Volume, kind: AreaKind) -> bool
+    ensures { result ≡ nopay_fits nopay kind }
+{
+    nopay.units.0 == 0 || kind.is_ciso()
+}
 
 #[tactic(auto, using(tables::proofs::Changed::changed_found))]
 pub(super) fn put_energy(
@@ -33,7 +43,7 @@ pub(super) fn put_tag(
     interval: Interval,
     tag: Tag,
 ) -> Result<(), Reason>
-    ensures { TriedToChangeIf resource_id id (λ r. is_tie r.kind) (with_tag interval.place tag) resources.old resources.new result }
+    ensures { TriedToChangeIf resource_id id (λ r. is_tie r.kind) Misfit (with_tag interval.place tag) resources.old resources.new result }
 {
     let resource = resources.row_mut(id)?;
     if !resource.kind.is_tie() {
@@ -43,28 +53,37 @@ pub(super) fn put_tag(
     Ok(())
 }
 
-#[tactic(auto, using(tables::proofs::Changed::changed_found))]
+// An election fits only where its nopay does, as a test.
+#[tactic(auto, using(tables::proofs::Changed::changed_found, tables::proofs::Changed::replaced_same))]
 pub(super) fn put_election(
     areas: &mut Table<Area>,
     id: u16,
     election: Election,
 ) -> Result<(), Reason>
-    ensures { TriedToChange area_id id (with_election election) areas.old areas.new result }
+    ensures { TriedToChangeIf area_id id (λ a. nopay_fits election.nopay a.kind) OutsideValues (with_election election) areas.old areas.new result }
 {
-    areas.row_mut(id)?.set_election(election);
+    let area = areas.row_mut(id)?;
+    if !nopay_fits(election.nopay, area.kind) {
+        return Err(Reason::OutsideValues);
+    }
+    area.set_election(election);
     Ok(())
 }
 
-#[tactic(auto, using(tables::proofs::Changed::changed_found))]
+#[tactic(auto, using(tables::proofs::Changed::changed_found, tables::proofs::Changed::replaced_same))]
 pub(super) fn put_test(
     areas: &mut Table<Area>,
     id: u16,
     quarter: Quarter,
     test: SufficiencyTest,
 ) -> Result<(), Reason>
-    ensures { TriedToChange area_id id (with_test quarter.place test) areas.old areas.new result }
+    ensures { TriedToChangeIf area_id id (λ a. nopay_fits test.nopay a.kind) OutsideValues (with_test quarter.place test) areas.old areas.new result }
 {
-    areas.row_mut(id)?.set_test(quarter, test);
+    let area = areas.row_mut(id)?;
+    if !nopay_fits(test.nopay, area.kind) {
+        return Err(Reason::OutsideValues);
+    }
+    area.set_test(quarter, test);
     Ok(())
 }
 
@@ -90,7 +109,7 @@ pub(super) fn put_demand(
     interval: Interval,
     demand: Volume,
 ) -> Result<(), Reason>
-    ensures { TriedToChangeIf party_id id (λ p. ciso_among areas.now.rows p.area) (with_demand interval.place demand) parties.old parties.new result }
+    ensures { TriedToChangeIf party_id id (λ p. ciso_among areas.now.rows p.area) Misfit (with_demand interval.place demand) parties.old parties.new result }
 {
     let party = parties.row_mut(id)?;
     check_ciso(areas, party.area)?;
@@ -107,7 +126,7 @@ pub(super) fn put_given(
     code: GivenCode,
     amount: GivenAmount,
 ) -> Result<(), Reason>
-    ensures { TriedToChangeIf party_id id (λ p. ciso_among areas.now.rows p.area) (with_given code interval.place amount) parties.old parties.new result }
+    ensures { TriedToChangeIf party_id id (λ p. ciso_among areas.now.rows p.area) Misfit (with_given code interval.place amount) parties.old parties.new result }
 {
     let party = parties.row_mut(id)?;
     check_ciso(areas, party.area)?;

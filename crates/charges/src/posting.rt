@@ -1,8 +1,5 @@
 // The calls that post a record, each refused by the first reason that fits.
 ghost use Rattle.std.specs.Prelude.{◌≡◌};
-ghost use Rattle.tables.specs.Refusals.{Tested};
-ghost use Rattle.tables.specs.declared.refusal.Reason.TheVariants.{OutsideValues};
-ghost use Rattle.charges.specs.Hours.{nopay_fits};
 ghost use Rattle.charges.specs.Calls.{judgment_of, left_by};
 ghost use Rattle.charges.specs.declared.call.Call.TheVariants.{PostEnergy, PostTag, PostElection, PostTest, PostTransfer, PostDemand, PostGiven};
 
@@ -48,7 +45,6 @@ impl Hour {
     {
         let id = id_of(id)?;
         let election = post.read()?;
-        self.check_nopay(id, post.nopay)?;
         put_election(&mut self.areas, id, election)
     }
 
@@ -59,7 +55,6 @@ impl Hour {
         let id = id_of(id)?;
         let quarter = Quarter::numbered(quarter)?;
         let test = post.read()?;
-        self.check_nopay(id, post.nopay)?;
         put_test(&mut self.areas, id, quarter, test)
     }
 
@@ -103,15 +98,5 @@ impl Hour {
         let code = GivenCode::numbered(code).ok_or(Reason::OutsideValues)?;
         let amount = GivenAmount::of(cents)?;
         put_given(&mut self.parties, id, &self.areas, interval, code, amount)
-    }
-
-    // That nopay is 0, where the area is entered and is a WEIM area.
-    fn check_nopay(&self, area: u16, nopay: i64) -> Result<(), Reason>
-        ensures { Tested (nopay_fits self.now area nopay) tt OutsideValues result }
-    {
-        match self.areas.row(area) {
-            Ok(row) if nopay != 0 && !row.kind.is_ciso() => Err(Reason::OutsideValues),
-            _ => Ok(()),
-        }
     }
 }

@@ -1,9 +1,9 @@
 -- Rows by their ids, and what is done with a table. Assumes nothing.
-use Rattle.std.specs.Prelude.{◌≡◌, ℕ, ◌==◌, nat_lt, Bool, true, false, List, [], ◌∷◌, ◌++◌, length, Option, is_some, find, position, slice_set, Result, Ok, Err}
+use Rattle.std.specs.Prelude.{◌≡◌, ℕ, ◌==◌, nat_lt, Bool, true, false, List, [], ◌∷◌, ◌++◌, length, Option, Some, None, is_some, find, position, slice_set, Result, Ok, Err}
 use Rattle.std.specs.Option.{option_map_or}
 use Rattle.tables.specs.View.{Table}
 use Rattle.tables.specs.declared.refusal.Reason.{Reason}
-use Rattle.tables.specs.declared.refusal.Reason.TheVariants.{Full, Misfit, NotEntered}
+use Rattle.tables.specs.declared.refusal.Reason.TheVariants.{Full, NotEntered}
 
 module _ {T : Type 0} where
   -- the first row with an id
@@ -47,8 +47,8 @@ module _ {T : Type 0} where
   TriedToChange key id change before after (Ok _) = (entered key id before.rows ≡ true) × (after ≡ changed key id change before)
   TriedToChange key id change before after (Err r) = (entered key id before.rows ≡ false) × (r ≡ NotEntered) × (after ≡ before)
 
-  -- it is changed where one is entered and fits there
-  abbrev pub TriedToChangeIf : (T → ℕ) → ℕ → (T → Bool) → (T → T) → Table T → Table T → Result (Unit {0}) Reason → Type 0
-  TriedToChangeIf key id fits change before after (Ok _) = (entered key id before.rows ≡ true) × (option_map_or fits (found key id before.rows) false ≡ true) × (after ≡ changed key id change before)
-  TriedToChangeIf key id fits change before after (Err NotEntered) = (entered key id before.rows ≡ false) × (after ≡ before)
-  TriedToChangeIf key id fits change before after (Err r) = (entered key id before.rows ≡ true) × (option_map_or fits (found key id before.rows) false ≡ false) × (r ≡ Misfit) × (after ≡ before)
+  -- it is changed where one is entered that fits; where one is entered that does not, the reason is given
+  abbrev pub TriedToChangeIf : (T → ℕ) → ℕ → (T → Bool) → Reason → (T → T) → Table T → Table T → Result (Unit {0}) Reason → Type 0
+  TriedToChangeIf key id fits reason change before after (Ok _) = (x : T) × (found key id before.rows ≡ Some x) × (fits x ≡ true) × (after ≡ changed key id change before)
+  TriedToChangeIf key id fits reason change before after (Err NotEntered) = (found key id before.rows ≡ None) × (after ≡ before)
+  TriedToChangeIf key id fits reason change before after (Err r) = (x : T) × (found key id before.rows ≡ Some x) × (fits x ≡ false) × (r ≡ reason) × (after ≡ before)
