@@ -17,7 +17,8 @@ use Rattle.charges.specs.declared.call.Call.TheVariants.{EnterArea, EnterParty, 
 use Rattle.charges.specs.declared.hour.Hour.{Hour}
 use Rattle.rows.specs.Kinds.{is_ciso}
 use Rattle.charges.specs.Ranges.{most_areas, most_parties, most_resources}
-use Rattle.rows.specs.Rows.{new_area, new_party, new_resource}
+use Rattle.rows.specs.Rows.{new_area, new_party, new_resource, WholeArea, WholeParty, WholeResource}
+use Rattle.rows.proofs.Whole.{whole_area, whole_party, whole_resource}
 use Rattle.charges.specs.Hours.{area_id, party_id, resource_id, area_of, party_of, area_is_ciso, area_is_weim, party_is_of_ciso, any_ciso, any_party_in}
 use Rattle.charges.specs.Calls.{reasons, made_by, left_by}
 use Rattle.charges.specs.Sound.{Sound, Grows, Extends, StepsKeepSound}
@@ -90,6 +91,9 @@ module _ (h : Hour) (s : Sound h) where
             (λ n. grind (arith, count_none (λ p. p.area == i) h.parties.rows (homeless i n)));
         homes = All-weaker _ _ (λ p e. ap is_some (kept p.area e) ∙ e) h.parties.rows s.homes;
         owners = All-weaker _ _ (λ r e. of_ciso_stays h g r.owner kept (λ _. refl) e) h.resources.rows s.owners;
+        whole_areas = All-push WholeArea h.areas.rows a s.whole_areas (whole_area (as_id id) kind);
+        whole_parties = s.whole_parties;
+        whole_resources = s.whole_resources;
       }
 
   with_party : (id area : ℤ) → first_fit (reasons (EnterParty id area) h) ≡ None → Sound (made_by (EnterParty id area) h)
@@ -106,6 +110,9 @@ module _ (h : Hour) (s : Sound h) where
         single = λ i w. single_more i p (grind (arith, fits)) w;
         homes = All-push (λ p. is_some (area_of h p.area) ≡ true) h.parties.rows p s.homes (grind (arith, fits));
         owners = All-weaker _ _ (λ r e. of_ciso_stays h g r.owner (λ _ _. refl) (find_kept (λ x. x.id == r.owner) h.parties.rows p) e) h.resources.rows s.owners;
+        whole_areas = s.whole_areas;
+        whole_parties = All-push WholeParty h.parties.rows p s.whole_parties (whole_party (as_id id) (as_id area));
+        whole_resources = s.whole_resources;
       }
 
   with_resource : (id owner : ℤ) (kind : ResourceKind) (net exempt : ℤ) → first_fit (reasons (EnterResource id owner (Some kind) net exempt) h) ≡ None → Sound (made_by (EnterResource id owner (Some kind) net exempt) h)
@@ -121,6 +128,9 @@ module _ (h : Hour) (s : Sound h) where
         single = s.single;
         homes = s.homes;
         owners = All-push (λ r. party_is_of_ciso h r.owner ≡ true) h.resources.rows r s.owners (grind (arith, fits));
+        whole_areas = s.whole_areas;
+        whole_parties = s.whole_parties;
+        whole_resources = All-push WholeResource h.resources.rows r s.whole_resources (whole_resource (as_id id) (as_id owner) kind (flag net) (flag exempt));
       }
 
 more_ids : {T : Type 0} (key : T → ℕ) (xs : List T) (y : T) → Extends key xs (xs ++ y ∷ [])

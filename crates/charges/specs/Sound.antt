@@ -3,6 +3,7 @@ use Rattle.std.specs.Prelude.{◌≡◌, ℕ, ◌≤◌, ◌==◌, true, List, m
 use Rattle.std.specs.List.{All, count_by}
 use Rattle.tables.specs.Keyed.{Keyed}
 use Rattle.tables.specs.Refusals.{first_fit}
+use Rattle.rows.specs.Rows.{WholeArea, WholeParty, WholeResource}
 use Rattle.charges.specs.declared.call.Call.{Call}
 use Rattle.charges.specs.declared.hour.Hour.{Hour}
 use Rattle.rows.specs.Kinds.{is_ciso}
@@ -23,6 +24,10 @@ pub record Sound (h : Hour) : Type 0 where
   pub homes : All (λ p. is_some (area_of h p.area) ≡ true) h.parties.rows
   -- the owner of each resource is entered, and is of the CISO area
   pub owners : All (λ r. party_is_of_ciso h r.owner ≡ true) h.resources.rows
+  -- for each row a record stands in each quarter and each interval
+  pub whole_areas : All WholeArea h.areas.rows
+  pub whole_parties : All WholeParty h.parties.rows
+  pub whole_resources : All WholeResource h.resources.rows
 
 -- an accepted call leads from the records before to those after
 pub record Step (before after : Hour) : Type 0 where

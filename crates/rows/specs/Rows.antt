@@ -1,5 +1,5 @@
 -- The rows of the tables as they are entered, before anything is posted. Assumes nothing.
-use Rattle.std.specs.Prelude.{ℕ, Bool, false, List, None, replicate, pos}
+use Rattle.std.specs.Prelude.{◌≡◌, ℕ, length, Bool, false, List, None, replicate, pos}
 use Rattle.deemed.specs.declared.quantities.Units.{Units}
 use Rattle.deemed.specs.declared.tag.Tag.{Tag}
 use Rattle.deemed.specs.Ranges.{hour_length}
@@ -90,3 +90,15 @@ new_resource id owner kind net exempt = record {
   tags = no_tags;
   deemed = nothing_deemed;
 }
+
+-- a record stands for each quarter and each interval
+abbrev pub WholeArea : Area → Type 0
+WholeArea a = (length a.tests ≡ quarters) × (length a.transfers ≡ hour_length)
+
+abbrev pub WholeParty : Party → Type 0
+WholeParty p =
+    (length p.demand ≡ hour_length)
+    × (length p.given.pass_through ≡ hour_length) × (length p.given.cc_6474 ≡ hour_length) × (length p.given.cc_6475 ≡ hour_length)
+
+abbrev pub WholeResource : Resource → Type 0
+WholeResource r = (length r.energy ≡ hour_length) × (length r.tags ≡ hour_length) × (length r.deemed ≡ hour_length)

@@ -1,11 +1,37 @@
 -- What changing a row by its id comes to. Assumes nothing.
-use Rattle.std.proofs.Common.{◌≡◌, refl, sym, ap, ◌∙◌, ℕ, ◌==◌, map, Option, Some, None, slice_set, slice_index_or, arith}
+use Rattle.std.proofs.Common.{◌≡◌, refl, sym, ap, ◌∙◌, ℕ, ◌==◌, map, Option, Some, None, slice_set, slice_index_or, arith, Bool, true, false, cond, [], ◌∷◌, subst, List, length, nat_lt, find}
+use Rattle.std.specs.List.{All}
+use Rattle.std.specs.List.{All}
 use Rattle.std.specs.Option.{option_map_or}
+use Rattle.std.proofs.lemmas.List.Elements.{All-head, All-tail}
+use Rattle.std.proofs.lemmas.List.Folds.{find-set}
 use Rattle.std.proofs.lemmas.List.{set-get_or}
 use Rattle.std.proofs.Math.Seq.{map-set_same}
+use Rattle.std.specs.List.{position_or_len}
+use Rattle.std.proofs.lemmas.List.Quantifiers.{position-Some}
+use Rattle.std.proofs.lemmas.Option.{cond_some}
 use Rattle.tables.specs.View.{Table}
 use Rattle.tables.specs.Tables.{found, place, with_replaced, changed}
-use Rattle.tables.proofs.Places.{find_there}
+use Rattle.tables.proofs.Places.{find_there, find_nowhere}
+
+module _ {T : Type 0} (p : T → Bool) where
+  -- a row that is found passes
+  found_passes : (xs : List T) (x : T) → find p xs ≡ Some x → p x ≡ true
+  found_passes [] x e = absurd (grind (arith, e))
+  found_passes (y ∷ ys) x e = first (p y) refl (found_passes ys x) e
+    where
+      first : (b : Bool) → p y ≡ b → (find p ys ≡ Some x → p x ≡ true) → cond b (Some y) (find p ys) ≡ Some x → p x ≡ true
+      first true here rest e = grind (arith, e, here)
+      first false here rest e = rest e
+
+  -- and what holds of all holds of it
+  pub found_holds : (P : T → Type 0) (xs : List T) (x : T) → All P xs → find p xs ≡ Some x → P x
+  found_holds P [] x h e = absurd (grind (arith, e))
+  found_holds P (y ∷ ys) x h e = first (p y) (All-head P y ys h) (found_holds P ys x (All-tail P y ys h)) e
+    where
+      first : (b : Bool) → P y → (find p ys ≡ Some x → P x) → cond b (Some y) (find p ys) ≡ Some x → P x
+      first true here rest e = let same : y ≡ x = grind (arith, e) in subst P same here
+      first false here rest e = rest e
 
 module _ {T : Type 0} (key : T → ℕ) (id : ℕ) (t : Table T) where
   -- the row that is found, changed and put back
@@ -42,6 +68,23 @@ module _ {T : Type 0} (key : T → ℕ) (id : ℕ) (t : Table T) where
       at None there = refl
       at (Some i) there = ap (λ rows. record t { rows = rows }) (ap (slice_set t.rows i) (sym (stands x i e there)) ∙ set-get_or t.rows i x)
 
+  -- the row that was put in its place is found under the id
+  replaced_found : (x y : T) → found key id t.rows ≡ Some x → key y ≡ key x → found key id (with_replaced key id t y).rows ≡ Some y
+  unfolding with_replaced
+  replaced_found x y e same = at (place key id t.rows) refl
+    where
+      p : T → Bool
+      p z = key z == id
+
+      passes : p y ≡ true
+      passes = ap (λ k. k == id) same ∙ found_passes p t.rows x e
+
+      at : (o : Option ℕ) → place key id t.rows ≡ o → found key id (option_map_or (λ i. slice_set t.rows i y) o t.rows) ≡ Some y
+      at None there = absurd (grind (arith, find_nowhere p t.rows there, e))
+      at (Some i) there =
+          let first = cond_some (nat_lt (position_or_len p t.rows) (length t.rows)) (position_or_len p t.rows) i there in
+          find-set p t.rows i y (sym first.1) (position-Some p t.rows i y there).0 passes
+
   module _ (change : T → T) where
     -- a change that cannot be seen leaves all rows looking as before
     pub changed_looks : {X : Type 0} (look : T → X) → ((x : T) → look (change x) ≡ look x) → map look (changed key id change t).rows ≡ map look t.rows
@@ -59,3 +102,7 @@ module _ {T : Type 0} (key : T → ℕ) (id : ℕ) (t : Table T) where
         at : (o : Option T) → (option_map_or (λ y. with_replaced key id t (change y)) o t).most ≡ t.most
         at None = refl
         at (Some x) = refl
+
+    -- what is found afterwards under the id is the row, changed
+    pub found_changed : ((x : T) → key (change x) ≡ key x) → (x : T) → found key id t.rows ≡ Some x → found key id (changed key id change t).rows ≡ Some (change x)
+    found_changed same x e = ap (λ u. found key id u.rows) (changed_found change x e) ∙ replaced_found x (change x) e (same x)
