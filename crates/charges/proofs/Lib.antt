@@ -1,2 +1,3 @@
+pub mod Standing
 pub mod SoundPosted
 pub mod SoundAfter

@@ -1,5 +1,5 @@
 -- What a row that is added leaves of the others. Assumes nothing.
-use Rattle.std.proofs.Common.{◌≡◌, ◌≢◌, refl, ◌∙◌, ℕ, Bool, true, false, cond, List, [], ◌∷◌, ◌++◌, is_some, pos, ◌==◌, arith}
+use Rattle.std.proofs.Common.{◌≡◌, ◌≢◌, refl, ◌∙◌, ℕ, Bool, true, false, cond, List, [], ◌∷◌, ◌++◌, Some, is_some, pos, ◌==◌, arith}
 use Rattle.std.specs.List.{All, find, list_any, count_by}
 use Rattle.std.proofs.lemmas.List.Elements.{All-nil, All-cons, All-head, All-push, All-tail}
 use Rattle.std.proofs.lemmas.List.Folds.{find-append}
@@ -8,7 +8,7 @@ use Rattle.std.proofs.lemmas.List.Quantifiers.{all_pairs_push}
 use Rattle.std.proofs.lemmas.Grind.{common_steps}
 use Rattle.tables.specs.Ranges.{is_id}
 use Rattle.tables.specs.View.{Table}
-use Rattle.tables.specs.Tables.{entered, has_room, with_row}
+use Rattle.tables.specs.Tables.{found, entered, has_room, with_row}
 use Rattle.tables.specs.Keyed.{Keyed}
 
 module _ {T : Type 0} (p : T → Bool) where
@@ -48,3 +48,7 @@ module _ {T : Type 0} (key : T → ℕ) (full : ℕ) where
     distinct = all_pairs_push (λ x y. key x ≢ key y) t.rows x h.distinct
         (λ k d l e. grind (arith, none_passes (λ y. key y == key x) t.rows new k d l));
   }
+
+-- a row with an id that is new is found under it
+pub found_pushed : {T : Type 0} (key : T → ℕ) (rows : List T) (x : T) → entered key (key x) rows ≡ false → found key (key x) (rows ++ x ∷ []) ≡ Some x
+found_pushed key rows x new = find-append (λ y. key y == key x) rows (x ∷ []) ∙ grind (arith, new, common_steps)
