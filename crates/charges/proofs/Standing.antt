@@ -1,10 +1,11 @@
 -- What an accepted call leaves is read under its key. Assumes nothing.
-use Rattle.std.proofs.Common.{◌≡◌, refl, sym, ap, ap₂, ◌∙◌, subst, ℕ, ◌<◌, ◌==◌, true, List, [], ◌∷◌, length, Option, Some, None, is_some, Ok, ℤ, pos, negsuc, arith, get_or-set_same}
+use Rattle.std.proofs.Common.{◌≡◌, refl, sym, ap, ap₂, ◌∙◌, subst, subst₂, ℕ, ◌<◌, ◌==◌, true, List, [], ◌∷◌, length, Option, Some, None, is_some, Result, Ok, IfOk, ℤ, pos, negsuc, arith, get_or-set_same}
 use Rattle.std.specs.Option.{option_map}
 use Rattle.tables.specs.declared.refusal.Reason.{Reason}
 use Rattle.tables.specs.declared.refusal.Reason.TheVariants.{OutsideSpan, OutsideValues}
+use Rattle.tables.specs.declared.refusal.Refusal.{Refusal}
 use Rattle.tables.specs.View.{Table}
-use Rattle.tables.specs.Refusals.{Fit, ◌unless◌, first_fit}
+use Rattle.tables.specs.Refusals.{Fit, ◌unless◌, first_fit, answered, left}
 use Rattle.tables.specs.Ranges.{is_id, as_id, flag, in_range}
 use Rattle.tables.specs.Tables.{found, changed}
 use Rattle.tables.proofs.Fits.{NoneFits, none_fits}
@@ -36,7 +37,7 @@ use Rattle.charges.specs.declared.call.Call.{Call}
 use Rattle.charges.specs.declared.call.Call.TheVariants.{EnterArea, EnterParty, EnterResource, PostEnergy, PostTag, PostElection, PostTest, PostTransfer, PostDemand, PostGiven}
 use Rattle.charges.specs.declared.hour.Hour.{Hour}
 use Rattle.charges.specs.Hours.{area_id, party_id, resource_id, area_of, party_of, resource_of}
-use Rattle.charges.specs.Calls.{reasons, made_by}
+use Rattle.charges.specs.Calls.{reasons, made_by, place_of, answer_to, left_by, refusal}
 use Rattle.charges.specs.Readings.{read, read_unless}
 use Rattle.charges.specs.Sound.{Sound}
 use Rattle.charges.specs.Standing.{Stands}
@@ -197,3 +198,12 @@ stands_made (PostTest id quarter post) h e s = test_stands h s id quarter post e
 stands_made (PostTransfer id interval post) h e s = transfer_stands h s id interval post e
 stands_made (PostDemand id interval units) h e s = demand_stands h s id interval units e
 stands_made (PostGiven id interval code cents) h e s = given_stands h s id interval code cents e
+
+-- the same of what a call leaves, by its answer
+pub stands_left : (call : Call) (h g : Hour) (r : Result (Unit {0}) Refusal) → r ≡ answer_to call h → g ≡ left_by call h → Sound h → IfOk r (λ _. Stands call g)
+stands_left call h g r answer made s =
+    subst₂ (λ r g. IfOk r (λ _. Stands call g)) (sym answer) (sym made) (at (first_fit (reasons call h)) refl)
+  where
+    at : (o : Option Reason) → first_fit (reasons call h) ≡ o → IfOk (answered (option_map (λ r. refusal r (place_of call)) o)) (λ _. Stands call (left o (made_by call h) h))
+    at None none = stands_made call h none s
+    at (Some r) some = tt

@@ -1,7 +1,8 @@
 // The calls on the records by their names, each one line over `take`.
-ghost use Rattle.std.specs.Prelude.{◌≡◌};
+ghost use Rattle.std.specs.Prelude.{◌≡◌, IfOk};
 ghost use Rattle.rows.specs.Kinds.{area_kind, resource_kind};
 ghost use Rattle.charges.specs.Calls.{answer_to, left_by};
+ghost use Rattle.charges.specs.Standing.{Stands};
 ghost use Rattle.charges.specs.declared.call.Call.TheVariants.{EnterArea, EnterParty, EnterResource, PostEnergy, PostTag, PostElection, PostTest, PostTransfer, PostDemand, PostGiven};
 
 use super::call::Call;
@@ -14,6 +15,7 @@ impl Records {
     pub fn enter_area(&mut self, id: i64, kind: &[u8]) -> Result<(), Refusal>
         ensures answer { result ≡ answer_to (EnterArea id (area_kind kind.now)) self.old }
         ensures records { self.new ≡ left_by (EnterArea id (area_kind kind.now)) self.old }
+        ensures stands { IfOk result (λ _. Stands (EnterArea id (area_kind kind.now)) self.new) }
     {
         self.take(Call::EnterArea {
             id,
@@ -25,6 +27,7 @@ impl Records {
     pub fn enter_party(&mut self, id: i64, area: i64) -> Result<(), Refusal>
         ensures answer { result ≡ answer_to (EnterParty id area) self.old }
         ensures records { self.new ≡ left_by (EnterParty id area) self.old }
+        ensures stands { IfOk result (λ _. Stands (EnterParty id area) self.new) }
     {
         self.take(Call::EnterParty { id, area })
     }
@@ -40,6 +43,7 @@ impl Records {
     ) -> Result<(), Refusal>
         ensures answer { result ≡ answer_to (EnterResource id owner (resource_kind kind.now) net exempt) self.old }
         ensures records { self.new ≡ left_by (EnterResource id owner (resource_kind kind.now) net exempt) self.old }
+        ensures stands { IfOk result (λ _. Stands (EnterResource id owner (resource_kind kind.now) net exempt) self.new) }
     {
         self.take(Call::EnterResource {
             id,
@@ -54,6 +58,7 @@ impl Records {
     pub fn post_energy(&mut self, id: i64, interval: i64, post: EnergyPost) -> Result<(), Refusal>
         ensures answer { result ≡ answer_to (PostEnergy id interval post) self.old }
         ensures records { self.new ≡ left_by (PostEnergy id interval post) self.old }
+        ensures stands { IfOk result (λ _. Stands (PostEnergy id interval post) self.new) }
     {
         self.take(Call::PostEnergy { id, interval, post })
     }
@@ -62,6 +67,7 @@ impl Records {
     pub fn post_tag(&mut self, id: i64, interval: i64, post: TagPost) -> Result<(), Refusal>
         ensures answer { result ≡ answer_to (PostTag id interval post) self.old }
         ensures records { self.new ≡ left_by (PostTag id interval post) self.old }
+        ensures stands { IfOk result (λ _. Stands (PostTag id interval post) self.new) }
     {
         self.take(Call::PostTag { id, interval, post })
     }
@@ -70,6 +76,7 @@ impl Records {
     pub fn post_election(&mut self, id: i64, post: ElectionPost) -> Result<(), Refusal>
         ensures answer { result ≡ answer_to (PostElection id post) self.old }
         ensures records { self.new ≡ left_by (PostElection id post) self.old }
+        ensures stands { IfOk result (λ _. Stands (PostElection id post) self.new) }
     {
         self.take(Call::PostElection { id, post })
     }
@@ -78,6 +85,7 @@ impl Records {
     pub fn post_test(&mut self, id: i64, quarter: i64, post: TestPost) -> Result<(), Refusal>
         ensures answer { result ≡ answer_to (PostTest id quarter post) self.old }
         ensures records { self.new ≡ left_by (PostTest id quarter post) self.old }
+        ensures stands { IfOk result (λ _. Stands (PostTest id quarter post) self.new) }
     {
         self.take(Call::PostTest { id, quarter, post })
     }
@@ -91,6 +99,7 @@ impl Records {
     ) -> Result<(), Refusal>
         ensures answer { result ≡ answer_to (PostTransfer id interval post) self.old }
         ensures records { self.new ≡ left_by (PostTransfer id interval post) self.old }
+        ensures stands { IfOk result (λ _. Stands (PostTransfer id interval post) self.new) }
     {
         self.take(Call::PostTransfer { id, interval, post })
     }
@@ -99,6 +108,7 @@ impl Records {
     pub fn post_demand(&mut self, id: i64, interval: i64, units: i64) -> Result<(), Refusal>
         ensures answer { result ≡ answer_to (PostDemand id interval units) self.old }
         ensures records { self.new ≡ left_by (PostDemand id interval units) self.old }
+        ensures stands { IfOk result (λ _. Stands (PostDemand id interval units) self.new) }
     {
         self.take(Call::PostDemand {
             id,
@@ -117,6 +127,7 @@ impl Records {
     ) -> Result<(), Refusal>
         ensures answer { result ≡ answer_to (PostGiven id interval code cents) self.old }
         ensures records { self.new ≡ left_by (PostGiven id interval code cents) self.old }
+        ensures stands { IfOk result (λ _. Stands (PostGiven id interval code cents) self.new) }
     {
         self.take(Call::PostGiven {
             id,

@@ -3,6 +3,7 @@ ghost use Rattle.std.specs.Prelude.{◌≡◌, IfOk};
 ghost use Rattle.charges.specs.Hours.{opened};
 ghost use Rattle.charges.specs.Calls.{answer_to, left_by, refusal};
 ghost use Rattle.charges.specs.Sound.{Sound, Step, Grows, StepsKeepSound};
+ghost use Rattle.charges.specs.Standing.{Stands};
 
 use super::call::Call;
 use super::hour::Hour;
@@ -61,6 +62,7 @@ impl Records {
         ensures records { self.new ≡ left_by call self.old }
         ensures sound { Sound self.new }
         ensures step { IfOk result (λ _. Step self.old self.new) }
+        ensures stands { IfOk result (λ _. Stands call self.new) }
         ensures grows { Grows self.old self.new }
     {
         match self.hour.take(call) {
