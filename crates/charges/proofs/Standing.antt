@@ -85,7 +85,7 @@ module _ (h : Hour) (s : Sound h) where
   whole_party_there id row e = found_holds (λ p. p.id == id) WholeParty h.parties.rows row s.whole_parties e
 
   energy_stands : (id interval : ℤ) (post : EnergyPost) → first_fit (reasons (PostEnergy id interval post) h) ≡ None → Stands (PostEnergy id interval post) (made_by (PostEnergy id interval post) h)
-  unfolding with_energy
+  unfolding with_energy Stands
   energy_stands id interval post e =
       let call = PostEnergy id interval post in
       let fits = none_fits (reasons call h) e in
@@ -96,7 +96,7 @@ module _ (h : Hour) (s : Sound h) where
       (grind (arith, fits)) (grind (arith, fits))
 
   tag_stands : (id interval : ℤ) (post : TagPost) → first_fit (reasons (PostTag id interval post) h) ≡ None → Stands (PostTag id interval post) (made_by (PostTag id interval post) h)
-  unfolding with_tag
+  unfolding with_tag Stands
   tag_stands id interval post e =
       let call = PostTag id interval post in
       let fits = none_fits (reasons call h) e in
@@ -107,7 +107,7 @@ module _ (h : Hour) (s : Sound h) where
       (grind (arith, fits)) (grind (arith, fits))
 
   election_stands : (id : ℤ) (post : ElectionPost) → first_fit (reasons (PostElection id post) h) ≡ None → Stands (PostElection id post) (made_by (PostElection id post) h)
-  unfolding with_election
+  unfolding with_election Stands
   election_stands id post e =
       let call = PostElection id post in
       let fits = none_fits (reasons call h) e in
@@ -117,7 +117,7 @@ module _ (h : Hour) (s : Sound h) where
       (grind (arith, fits)) (grind (arith, fits))
 
   test_stands : (id quarter : ℤ) (post : TestPost) → first_fit (reasons (PostTest id quarter post) h) ≡ None → Stands (PostTest id quarter post) (made_by (PostTest id quarter post) h)
-  unfolding with_test
+  unfolding with_test Stands
   test_stands id quarter post e =
       let call = PostTest id quarter post in
       let fits = none_fits (reasons call h) e in
@@ -128,7 +128,7 @@ module _ (h : Hour) (s : Sound h) where
       (grind (arith, fits)) (grind (arith, fits))
 
   transfer_stands : (id interval : ℤ) (post : TransferPost) → first_fit (reasons (PostTransfer id interval post) h) ≡ None → Stands (PostTransfer id interval post) (made_by (PostTransfer id interval post) h)
-  unfolding with_transfer
+  unfolding with_transfer Stands
   transfer_stands id interval post e =
       let call = PostTransfer id interval post in
       let fits = none_fits (reasons call h) e in
@@ -139,7 +139,7 @@ module _ (h : Hour) (s : Sound h) where
       (grind (arith, fits)) (grind (arith, fits))
 
   demand_stands : (id interval units : ℤ) → first_fit (reasons (PostDemand id interval units) h) ≡ None → Stands (PostDemand id interval units) (made_by (PostDemand id interval units) h)
-  unfolding with_demand
+  unfolding with_demand Stands
   demand_stands id interval units e =
       let call = PostDemand id interval units in
       let fits = none_fits (reasons call h) e in
@@ -157,6 +157,7 @@ module _ (h : Hour) (s : Sound h) where
   amount_stands Cc6475 place amount row e whole = get_or-set_same row.given.cc_6475 place amount (as_given (pos 0)) (rw whole.3 e)
 
   given_stands : (id interval code cents : ℤ) → first_fit (reasons (PostGiven id interval code cents) h) ≡ None → Stands (PostGiven id interval code cents) (made_by (PostGiven id interval code cents) h)
+  unfolding Stands
   given_stands id interval code cents e = under (given_code code) refl
     where
       call : Call
@@ -175,13 +176,16 @@ module _ (h : Hour) (s : Sound h) where
           (grind (arith, fits)) (grind (arith, fits)))
 
   area_stands : (id : ℤ) (kind : Option AreaKind) → first_fit (reasons (EnterArea id kind) h) ≡ None → Stands (EnterArea id kind) (made_by (EnterArea id kind) h)
+  unfolding Stands
   area_stands id None e = absurd (grind (arith, none_fits (reasons (EnterArea id None) h) e))
   area_stands id (Some kind) e = found_pushed area_id h.areas.rows (new_area (as_id id) kind) (grind (arith, none_fits (reasons (EnterArea id (Some kind)) h) e))
 
   party_stands : (id area : ℤ) → first_fit (reasons (EnterParty id area) h) ≡ None → Stands (EnterParty id area) (made_by (EnterParty id area) h)
+  unfolding Stands
   party_stands id area e = found_pushed party_id h.parties.rows (new_party (as_id id) (as_id area)) (grind (arith, none_fits (reasons (EnterParty id area) h) e))
 
   resource_stands : (id owner : ℤ) (kind : Option ResourceKind) (net exempt : ℤ) → first_fit (reasons (EnterResource id owner kind net exempt) h) ≡ None → Stands (EnterResource id owner kind net exempt) (made_by (EnterResource id owner kind net exempt) h)
+  unfolding Stands
   resource_stands id owner None net exempt e = absurd (grind (arith, none_fits (reasons (EnterResource id owner None net exempt) h) e))
   resource_stands id owner (Some kind) net exempt e =
       found_pushed resource_id h.resources.rows (new_resource (as_id id) (as_id owner) kind (flag net) (flag exempt))

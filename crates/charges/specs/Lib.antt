@@ -1,3 +1,4 @@
+pub mod Placing
 pub mod Ranges
 pub mod Hours
 pub mod Calls

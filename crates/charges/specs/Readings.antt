@@ -35,6 +35,7 @@ abbrev pub told : {X : Type 0} → Place → Result X Reason → Result X Refusa
 told place (Ok x) = Ok x
 told place (Err reason) = Err (refusal reason place)
 
+-- each kind of record under its key
 abbrev pub energy_read : ℤ → ℤ → Hour → Result EnergyRecord Reason
 energy_read id interval h =
     read

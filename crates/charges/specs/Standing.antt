@@ -12,7 +12,7 @@ use Rattle.charges.specs.Hours.{area_of, party_of, resource_of}
 use Rattle.charges.specs.Readings.{energy_read, tag_read, election_read, test_read, transfer_read, demand_read, given_read}
 
 -- a new row is found under its id, and a record that was posted is read under its key, as a whole
-abbrev pub Stands : Call → Hour → Type 0
+unfoldable pub Stands : Call → Hour → Type 0
 Stands (EnterArea id kind) h = area_of h (as_id id) ≡ option_map (new_area (as_id id)) kind
 Stands (EnterParty id area) h = party_of h (as_id id) ≡ Some (new_party (as_id id) (as_id area))
 Stands (EnterResource id owner kind net exempt) h =

@@ -1,4 +1,4 @@
-// The records of an hour: areas, parties and resources, and the calls that enter them.
+// The records of an hour, and the calls that enter, post and read them.
 #![tactic(auto)]
 
 mod call;

@@ -1,6 +1,6 @@
 // Puts records in their places, where the row that they are posted for is entered.
 ghost use Rattle.std.specs.Prelude.{◌≡◌};
-ghost use Rattle.tables.specs.Tables.{TriedToChange, TriedToChangeIf};
+ghost use Rattle.charges.specs.Placing.{TriedToChange, TriedToChangeIf};
 ghost use Rattle.tables.specs.declared.refusal.Reason.TheVariants.{Misfit, OutsideValues};
 ghost use Rattle.rows.specs.Kinds.{is_tie};
 ghost use Rattle.rows.specs.Posted.{with_election, with_test, with_transfer, with_demand, with_given, with_energy, with_tag};

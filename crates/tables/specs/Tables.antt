@@ -1,9 +1,9 @@
 -- Rows by their ids, and what is done with a table. Assumes nothing.
-use Rattle.std.specs.Prelude.{◌≡◌, ℕ, ◌==◌, nat_lt, Bool, true, false, List, [], ◌∷◌, ◌++◌, length, Option, Some, None, is_some, find, position, slice_set, Result, Ok, Err}
+use Rattle.std.specs.Prelude.{◌≡◌, ℕ, ◌==◌, nat_lt, Bool, true, false, List, [], ◌∷◌, ◌++◌, length, Option, is_some, find, position, slice_set, Result, Ok, Err}
 use Rattle.std.specs.Option.{option_map_or}
 use Rattle.tables.specs.View.{Table}
 use Rattle.tables.specs.declared.refusal.Reason.{Reason}
-use Rattle.tables.specs.declared.refusal.Reason.TheVariants.{Full, NotEntered}
+use Rattle.tables.specs.declared.refusal.Reason.TheVariants.{Full}
 
 module _ {T : Type 0} where
   -- the first row with an id
@@ -41,14 +41,3 @@ module _ {T : Type 0} where
   abbrev pub TriedToAdd : T → Table T → Table T → Result (Unit {0}) Reason → Type 0
   TriedToAdd x before after (Ok _) = (has_room before ≡ true) × (after ≡ with_row before x)
   TriedToAdd x before after (Err r) = (has_room before ≡ false) × (r ≡ Full) × (after ≡ before)
-
-  -- the row with an id is changed where one is entered, and else the table is as it was
-  abbrev pub TriedToChange : (T → ℕ) → ℕ → (T → T) → Table T → Table T → Result (Unit {0}) Reason → Type 0
-  TriedToChange key id change before after (Ok _) = (entered key id before.rows ≡ true) × (after ≡ changed key id change before)
-  TriedToChange key id change before after (Err r) = (entered key id before.rows ≡ false) × (r ≡ NotEntered) × (after ≡ before)
-
-  -- it is changed where one is entered that fits; where one is entered that does not, the reason is given
-  abbrev pub TriedToChangeIf : (T → ℕ) → ℕ → (T → Bool) → Reason → (T → T) → Table T → Table T → Result (Unit {0}) Reason → Type 0
-  TriedToChangeIf key id fits reason change before after (Ok _) = (x : T) × (found key id before.rows ≡ Some x) × (fits x ≡ true) × (after ≡ changed key id change before)
-  TriedToChangeIf key id fits reason change before after (Err NotEntered) = (found key id before.rows ≡ None) × (after ≡ before)
-  TriedToChangeIf key id fits reason change before after (Err r) = (x : T) × (found key id before.rows ≡ Some x) × (fits x ≡ false) × (r ≡ reason) × (after ≡ before)
