@@ -3,6 +3,7 @@
 #![tactic(auto)]
 
 mod entering;
+mod figures;
 mod parties;
 mod pools;
 mod posting;
