@@ -1,5 +1,5 @@
 // The types of exceptional dispatch, and the words that name them.
-ghost use Rattle.std.specs.Prelude.{◌≡◌, bytes_eq, option_map};
+ghost use Rattle.std.specs.Prelude.{◌≡◌, Some, bytes_eq, option_map};
 ghost use Rattle.tables.specs.Refusals.{Tested};
 ghost use Rattle.tables.specs.declared.refusal.Reason.TheVariants.{OutsideValues};
 ghost use Rattle.rows.specs.Dispatch.{dispatch_type, dispatch_word, type_word, dispatch_fits, as_dispatch};
@@ -79,9 +79,10 @@ impl DispatchType {
         DispatchType::Test,
     ];
 
-    // The word that names the type.
+    // The word that names the type, and no other.
     pub fn name(self) -> &'static [u8]
-        ensures { result.now ≡ type_word self }
+        ensures word { result.now ≡ type_word self }
+        ensures own { dispatch_type result.now ≡ Some self }
     {
         match self {
             DispatchType::SysEmr => b"SYSEMR",

@@ -2,12 +2,12 @@
 ghost use Rattle.std.specs.Prelude.{◌≡◌};
 ghost use Rattle.rows.specs.Codes.{given_code};
 
-// The codes, with their numbers.
 #[derive(Clone, Copy, PartialEq, Eq, Debug)]
 pub enum GivenCode {
-    PassThrough = 6470,
-    Cc6474 = 6474,
-    Cc6475 = 6475,
+    // CC 6470
+    PassThrough,
+    Cc6474,
+    Cc6475,
 }
 
 impl GivenCode {
