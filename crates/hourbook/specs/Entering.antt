@@ -1,8 +1,8 @@
 -- The calls that the sample entries make. Assumes nothing.
 use Rattle.std.specs.Prelude.{pos}
 use Rattle.rows.specs.Kinds.{area_kind, resource_kind}
-use Rattle.charges.specs.declared.call.Call.{Call}
-use Rattle.charges.specs.declared.call.Call.TheVariants.{EnterArea, EnterParty, EnterResource}
+use Rattle.records.specs.declared.call.Call.{Call}
+use Rattle.records.specs.declared.call.Call.TheVariants.{EnterArea, EnterParty, EnterResource}
 use Rattle.hourbook.specs.declared.entering.Entry.{Entry}
 use Rattle.hourbook.specs.declared.entering.Entry.TheVariants.{Area, Party, Resource}
 

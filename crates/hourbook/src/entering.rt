@@ -1,9 +1,9 @@
 // Enters the areas, the parties and the resources of a sample hour, and meets each refusal that entering knows.
 ghost use Rattle.std.specs.Prelude.{◌≡◌};
-ghost use Rattle.charges.specs.Calls.{answer_to, left_by};
+ghost use Rattle.records.specs.Calls.{answer_to, left_by};
 ghost use Rattle.hourbook.specs.Entering.{call_of};
 
-use charges::Records;
+use records::Records;
 use std::io::Write;
 use std::{fmt, io};
 use tables::{HasId, Refusal};

@@ -13,7 +13,7 @@ mod tags;
 mod ties;
 
 use anyhow::Context;
-use charges::Records;
+use records::Records;
 use entering::{AREAS, PARTIES, RESOURCES, print_entries};
 use pools::{POOLS, SamplePool, enter_parties};
 use posting::print_posts;

@@ -4,7 +4,7 @@ use super::figures::{
     test_figures, test_post, transfer_figures, transfer_post,
 };
 use super::sample::posts;
-use charges::{Call, Records};
+use records::{Call, Records};
 use rows::DispatchWord;
 use std::io::{self, Write};
 use tables::Refusal;

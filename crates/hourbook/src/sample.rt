@@ -1,5 +1,5 @@
 // What is posted in the sample hour.
-use charges::Call;
+use records::Call;
 use rows::{DispatchType, DispatchWord, ElectionPost, EnergyPost, TagPost, TestPost, TransferPost};
 
 const NO_ENERGY: EnergyPost = EnergyPost {

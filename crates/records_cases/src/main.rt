@@ -5,7 +5,7 @@ mod posting;
 mod reading;
 
 use anyhow::Context;
-use charges::Records;
+use records::Records;
 use posting::post;
 use reading::print_reading;
 use rows::{AreaKind, Resource, ResourceKind};

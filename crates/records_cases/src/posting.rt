@@ -1,7 +1,7 @@
 // Posts what a line says.
 use super::{WORDS, word_bytes};
 use anyhow::bail;
-use charges::Records;
+use records::Records;
 use rows::{DispatchWord, ElectionPost, EnergyPost, TagPost, TestPost, TransferPost};
 use tables::Refusal;
 

@@ -1,7 +1,7 @@
 // Prints what stands in the records.
 use super::WORDS;
 use anyhow::bail;
-use charges::Records;
+use records::Records;
 use deemed::Tag;
 use rows::{Election, EnergyRecord, GivenAmount, SufficiencyTest, Transfer, Volume};
 use std::io::{self, Write};
