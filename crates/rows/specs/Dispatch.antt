@@ -3,6 +3,8 @@ use Rattle.std.specs.Prelude.{ℕ, Bool, true, false, List, [], ◌∷◌, Optio
 use Rattle.std.specs.Option.{option_map_or}
 use Rattle.rows.specs.declared.dispatch.DispatchType.{DispatchType}
 use Rattle.rows.specs.declared.dispatch.DispatchType.TheVariants.{SysEmr, SysEmr1, Temr, TModel, TModel1, TModel2, TModel3, TModel4, TModel5, TModel6, TModel7, TModel8, TModel9, TorEtc, TorEtc1, RmrR, RmrS, RmrT, Slic, Other, NonTMod, AsTest, Test}
+use Rattle.rows.specs.declared.dispatch.DispatchClass.{DispatchClass}
+use Rattle.rows.specs.declared.dispatch.DispatchClass.TheVariants.{First, Second}
 use Rattle.rows.specs.declared.dispatch.DispatchWord.{DispatchWord}
 use Rattle.rows.specs.declared.dispatch.DispatchWord.TheVariants.{Absent, Named, Unknown}
 use Rattle.rows.specs.Named.{named}
@@ -39,6 +41,13 @@ dispatch_types =
     ∷ TorEtc ∷ TorEtc1 ∷ RmrR ∷ RmrS ∷ RmrT ∷ Slic ∷ Other
     ∷ NonTMod ∷ AsTest ∷ Test
     ∷ []
+
+-- the class of a type
+abbrev pub dispatch_class : DispatchType → DispatchClass
+dispatch_class NonTMod = Second
+dispatch_class AsTest = Second
+dispatch_class Test = Second
+dispatch_class _ = First
 
 abbrev pub dispatch_type : List ℕ → Option DispatchType
 dispatch_type word = named type_word dispatch_types word

@@ -2,11 +2,12 @@
 use Rattle.std.specs.Prelude.{ℕ, Bool, cond, ℤ, pos, nat_le, unsigned_abs, ◌≤◌, ◌≤ℤ◌}
 use Rattle.std.proofs.Common.{arith}
 use Rattle.tables.specs.Ranges.{in_range}
-use Rattle.rows.specs.Ranges.{most_price, most_energy, most_given}
+use Rattle.rows.specs.Ranges.{most_price, most_energy, most_deemed, most_given}
 use Rattle.rows.specs.declared.figures.Price.{Price}
 use Rattle.rows.specs.declared.figures.BidCap.{BidCap}
 use Rattle.rows.specs.declared.figures.Energy.{Energy}
 use Rattle.rows.specs.declared.figures.Volume.{Volume}
+use Rattle.rows.specs.declared.figures.DeemedEnergy.{DeemedEnergy}
 use Rattle.rows.specs.declared.figures.GivenAmount.{GivenAmount}
 
 -- no more than so much, of either sign, and never below 0
@@ -27,6 +28,9 @@ is_energy z = either_way most_energy z
 
 abbrev pub is_volume : ℤ → Bool
 is_volume z = from_0_to most_energy z
+
+abbrev pub is_deemed : ℤ → Bool
+is_deemed z = either_way most_deemed z
 
 abbrev pub is_given : ℤ → Bool
 is_given z = either_way most_given z
@@ -59,6 +63,9 @@ as_energy z = record { units = record { 0 = or_0 (is_energy z) z }; within = eit
 
 unfoldable pub as_volume : ℤ → Volume
 as_volume z = record { units = record { 0 = or_0 (is_volume z) z }; from_0 = never_below_0 most_energy z; within = from_0_within most_energy z }
+
+unfoldable pub as_deemed : ℤ → DeemedEnergy
+as_deemed z = record { units = record { 0 = or_0 (is_deemed z) z }; within = either_way_within most_deemed z }
 
 unfoldable pub as_given : ℤ → GivenAmount
 as_given z = record { cents = record { 0 = or_0 (is_given z) z }; within = either_way_within most_given z }

@@ -3,6 +3,7 @@ use Rattle.std.specs.Prelude.{ℕ, List, pos, slice_index_or, slice_set}
 use Rattle.deemed.specs.declared.tag.Tag.{Tag}
 use Rattle.deemed.specs.Tags.{no_tag}
 use Rattle.rows.specs.declared.figures.Volume.{Volume}
+use Rattle.rows.specs.declared.figures.DeemedEnergy.{DeemedEnergy}
 use Rattle.rows.specs.declared.figures.GivenAmount.{GivenAmount}
 use Rattle.rows.specs.declared.given.GivenCode.{GivenCode}
 use Rattle.rows.specs.declared.given.GivenCode.TheVariants.{PassThrough, Cc6474, Cc6475}
@@ -14,7 +15,7 @@ use Rattle.rows.specs.declared.party.GivenAmounts.{GivenAmounts}
 use Rattle.rows.specs.declared.party.Party.{Party}
 use Rattle.rows.specs.declared.resource.EnergyRecord.{EnergyRecord}
 use Rattle.rows.specs.declared.resource.Resource.{Resource}
-use Rattle.rows.specs.Figures.{as_volume, as_given}
+use Rattle.rows.specs.Figures.{as_volume, as_deemed, as_given}
 use Rattle.rows.specs.Rows.{no_test, no_transfer, no_energy}
 
 abbrev pub test_at : ℕ → Area → SufficiencyTest
@@ -40,6 +41,9 @@ energy_at place r = slice_index_or r.energy place no_energy
 
 abbrev pub tag_at : ℕ → Resource → Tag
 tag_at place r = slice_index_or r.tags place no_tag
+
+abbrev pub deemed_at : ℕ → Resource → DeemedEnergy
+deemed_at place r = slice_index_or r.deemed place (as_deemed (pos 0))
 
 unfoldable pub with_election : Election → Area → Area
 with_election election a = record a { election = election }

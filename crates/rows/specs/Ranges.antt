@@ -9,6 +9,10 @@ most_price = 500000000
 abbrev pub most_energy : ℕ
 most_energy = 10000000
 
+-- what twelve tags schedule at most, in units, either way
+abbrev pub most_deemed : ℕ
+most_deemed = 120000000
+
 -- in cents, either way
 abbrev pub most_given : ℕ
 most_given = 1000000000

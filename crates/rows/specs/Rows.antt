@@ -1,10 +1,10 @@
 -- The rows of the tables as they are entered, before anything is posted. Assumes nothing.
 use Rattle.std.specs.Prelude.{◌≡◌, ℕ, length, Bool, false, List, None, replicate, pos}
-use Rattle.deemed.specs.declared.quantities.Units.{Units}
 use Rattle.deemed.specs.declared.tag.Tag.{Tag}
 use Rattle.deemed.specs.Ranges.{hour_length}
 use Rattle.deemed.specs.Tags.{no_tag}
 use Rattle.rows.specs.declared.figures.Volume.{Volume}
+use Rattle.rows.specs.declared.figures.DeemedEnergy.{DeemedEnergy}
 use Rattle.rows.specs.declared.kinds.AreaKind.{AreaKind}
 use Rattle.rows.specs.declared.kinds.ResourceKind.{ResourceKind}
 use Rattle.rows.specs.declared.area.Election.{Election}
@@ -16,7 +16,7 @@ use Rattle.rows.specs.declared.party.Party.{Party}
 use Rattle.rows.specs.declared.resource.EnergyRecord.{EnergyRecord}
 use Rattle.rows.specs.declared.resource.Resource.{Resource}
 use Rattle.rows.specs.Ranges.{quarters}
-use Rattle.rows.specs.Figures.{as_price, as_cap, as_energy, as_volume, as_given}
+use Rattle.rows.specs.Figures.{as_price, as_cap, as_energy, as_volume, as_deemed, as_given}
 
 -- an area is opted out
 unfoldable pub no_election : Election
@@ -76,8 +76,8 @@ unfoldable pub no_tags : List Tag
 no_tags = replicate hour_length no_tag
 
 -- nothing is deemed delivered
-unfoldable pub nothing_deemed : List Units
-nothing_deemed = replicate hour_length (record { 0 = pos 0 })
+unfoldable pub nothing_deemed : List DeemedEnergy
+nothing_deemed = replicate hour_length (as_deemed (pos 0))
 
 abbrev pub new_resource : ℕ → ℕ → ResourceKind → Bool → Bool → Resource
 new_resource id owner kind net exempt = record {

@@ -1,5 +1,5 @@
 -- The intervals and the quarters of an hour, by their numbers. Assumes nothing.
-use Rattle.std.specs.Prelude.{◌≡◌, ◌-◌, ℕ, Bool, true, false, ℤ, pos, Result, Ok, Err, unsigned_abs}
+use Rattle.std.specs.Prelude.{◌≡◌, ◌+◌, ◌-◌, ◌/◌, ℕ, Bool, true, false, ℤ, pos, Result, Ok, Err, unsigned_abs}
 use Rattle.tables.specs.Ranges.{in_range}
 use Rattle.tables.specs.declared.refusal.Reason.{Reason}
 use Rattle.tables.specs.declared.refusal.Reason.TheVariants.{OutsideSpan}
@@ -20,6 +20,10 @@ is_quarter z = is_slot quarters z
 -- its place, from 0
 abbrev pub slot_place : ℤ → ℕ
 slot_place z = unsigned_abs z - 1
+
+-- interval i lies in quarter (i + 2) / 3; here by their places
+abbrev pub quarter_of : ℕ → ℕ
+quarter_of place = (place + 1 + 2) / 3 - 1
 
 -- the slot with this number, where there is one
 abbrev pub Numbered : (count : ℕ) → ℤ → Result (Slot count) Reason → Type 0

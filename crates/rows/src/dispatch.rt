@@ -2,7 +2,7 @@
 ghost use Rattle.std.specs.Prelude.{◌≡◌, Some, bytes_eq, option_map};
 ghost use Rattle.tables.specs.Refusals.{Tested};
 ghost use Rattle.tables.specs.declared.refusal.Reason.TheVariants.{OutsideValues};
-ghost use Rattle.rows.specs.Dispatch.{dispatch_type, dispatch_word, type_word, dispatch_fits, as_dispatch};
+ghost use Rattle.rows.specs.Dispatch.{dispatch_class, dispatch_type, dispatch_word, type_word, dispatch_fits, as_dispatch};
 
 use tables::Reason;
 
@@ -33,6 +33,13 @@ pub enum DispatchType {
     NonTMod,
     AsTest,
     Test,
+}
+
+// Which price an exceptional dispatch has goes by the class of its type.
+#[derive(Clone, Copy, PartialEq, Eq, Debug)]
+pub enum DispatchClass {
+    First,
+    Second,
 }
 
 // What a post says of the dispatch type.
@@ -108,6 +115,16 @@ impl DispatchType {
             DispatchType::NonTMod => b"NONTMOD",
             DispatchType::AsTest => b"ASTEST",
             DispatchType::Test => b"TEST",
+        }
+    }
+
+    pub fn class(self) -> DispatchClass
+        ensures { result ≡ dispatch_class self }
+    {
+        match self {
+            DispatchType::NonTMod | DispatchType::AsTest | DispatchType::Test =>
+                DispatchClass::Second,
+            _ => DispatchClass::First,
         }
     }
 

@@ -1,6 +1,6 @@
 // Quantities, and the figures that records hold: each a quantity inside its range.
 ghost use Rattle.std.specs.Prelude.{◌≤◌, ◌≤ℤ◌, pos, unsigned_abs, refl};
-ghost use Rattle.rows.specs.Ranges.{most_price, most_energy, most_given};
+ghost use Rattle.rows.specs.Ranges.{most_price, most_energy, most_given, most_deemed};
 
 use deemed::Units;
 use sharing::Quantity;
@@ -12,6 +12,9 @@ pub const MOST_PRICE: i64 = 500_000_000;
 pub const MOST_ENERGY: i64 = 10_000_000;
 
 pub const MOST_GIVEN: i64 = 1_000_000_000;
+
+// What twelve tags schedule at most.
+pub const MOST_DEEMED: i64 = 120_000_000;
 
 // Money.
 #[derive(Clone, Copy, PartialEq, Eq, Debug)]
@@ -66,6 +69,13 @@ pub struct Volume {
     pub units: Units,
     ghost from_0: { pos 0 ≤ℤ units.0 },
     ghost within: { unsigned_abs units.0 ≤ most_energy },
+}
+
+// The deemed energy of a tie's interval, of either sign.
+#[derive(Clone, Copy, PartialEq, Eq, Debug)]
+pub struct DeemedEnergy {
+    pub units: Units,
+    ghost within: { unsigned_abs units.0 ≤ most_deemed },
 }
 
 // Money that is given to the book, of either sign.
@@ -176,6 +186,31 @@ impl Volume {
         ensures { result ≡ as_volume (pos 0) }
     {
         Volume { units: Units(0) }
+    }
+}
+
+impl DeemedEnergy {
+    ghost use Rattle.std.specs.Prelude.{◌≡◌, pos};
+    ghost use Rattle.tables.specs.Refusals.{Tested};
+    ghost use Rattle.tables.specs.declared.refusal.Reason.TheVariants.{OutsideValues};
+    ghost use Rattle.rows.specs.Figures.{is_deemed, as_deemed};
+
+    // The deemed energy of so many units.
+    #[tactic(auto, unfolding(crate::specs::Figures::as_deemed, crate::specs::Figures::either_way, tables::specs::Ranges::in_range))]
+    pub fn of(units: i64) -> Result<DeemedEnergy, Reason>
+        ensures { Tested (is_deemed units) (as_deemed units) OutsideValues result }
+    {
+        let units = ranged(-MOST_DEEMED, MOST_DEEMED, units, Reason::OutsideValues)?;
+        Ok(DeemedEnergy {
+            units: Units(units),
+        })
+    }
+
+    #[tactic(auto, unfolding(crate::specs::Figures::as_deemed, crate::specs::Figures::either_way))]
+    pub(crate) fn zero() -> DeemedEnergy
+        ensures { result ≡ as_deemed (pos 0) }
+    {
+        DeemedEnergy { units: Units(0) }
     }
 }
 

@@ -12,10 +12,10 @@ mod resource;
 mod slot;
 
 pub use area::{Area, Election, SufficiencyTest, Transfer};
-pub use dispatch::{DispatchType, DispatchWord};
+pub use dispatch::{DispatchClass, DispatchType, DispatchWord};
 pub use figures::{
-    BidCap, Cents, Energy, GivenAmount, MOST_ENERGY, MOST_GIVEN, MOST_PRICE, Price, PriceSteps,
-    Volume,
+    BidCap, Cents, DeemedEnergy, Energy, GivenAmount, MOST_DEEMED, MOST_ENERGY, MOST_GIVEN,
+    MOST_PRICE, Price, PriceSteps, Volume,
 };
 pub use given::GivenCode;
 pub use kinds::{AreaKind, ResourceKind};

@@ -4,10 +4,10 @@ ghost use Rattle.rows.specs.Rows.{no_energy, new_resource};
 ghost use Rattle.rows.specs.Posted.{with_energy, with_tag};
 
 use super::dispatch::DispatchType;
-use super::figures::{Energy, Price};
+use super::figures::{DeemedEnergy, Energy, Price};
 use super::kinds::ResourceKind;
 use super::slot::Interval;
-use deemed::{INTERVALS, Tag, Units};
+use deemed::{INTERVALS, Tag};
 use tables::HasId;
 
 // The prices and energies of an interval.
@@ -40,7 +40,7 @@ pub struct Resource {
     pub exempt: bool,
     pub energy: [EnergyRecord; INTERVALS],
     pub tags: [Tag; INTERVALS],
-    pub deemed: [Units; INTERVALS],
+    pub deemed: [DeemedEnergy; INTERVALS],
 }
 
 impl EnergyRecord {
@@ -79,7 +79,7 @@ impl Resource {
             exempt,
             energy: [EnergyRecord::none(); INTERVALS],
             tags: [Tag::none(); INTERVALS],
-            deemed: [Units(0); INTERVALS],
+            deemed: [DeemedEnergy::zero(); INTERVALS],
         }
     }
 

@@ -34,3 +34,17 @@ impl<const COUNT: usize> Slot<COUNT> {
         })
     }
 }
+
+impl Slot<INTERVALS> {
+    ghost use Rattle.std.specs.Prelude.{◌≡◌};
+    ghost use Rattle.rows.specs.Slots.{quarter_of};
+
+    // The quarter in which the interval lies.
+    pub fn quarter(self) -> Quarter
+        ensures { result.place ≡ quarter_of self.place }
+    {
+        Slot {
+            place: self.place / (INTERVALS / QUARTERS),
+        }
+    }
+}
