@@ -1,0 +1,5 @@
+pub mod Ranges
+pub mod Rounding
+pub mod Dispatch
+pub mod Imbalance
+pub mod Surcharge
