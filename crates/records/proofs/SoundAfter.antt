@@ -21,8 +21,8 @@ use Rattle.rows.specs.Rows.{new_area, new_party, new_resource, WholeArea, WholeP
 use Rattle.rows.proofs.Whole.{whole_area, whole_party, whole_resource}
 use Rattle.records.specs.Hours.{area_id, party_id, resource_id, area_of, party_of, area_is_ciso, area_is_weim, party_is_of_ciso, any_ciso, any_party_in}
 use Rattle.records.specs.Calls.{reasons, made_by, left_by}
-use Rattle.records.specs.Sound.{Sound, Grows, Extends, StepsKeepSound}
-use Rattle.records.proofs.SoundPosted.{Lasts, same_ids, energy_lasts, tag_lasts, election_lasts, test_lasts, transfer_lasts, demand_lasts, given_lasts}
+use Rattle.records.specs.Sound.{Sound, AsEntered, Extends, StepsKeepSound}
+use Rattle.records.proofs.SoundPosted.{Lasts, same_ids, none_new, energy_lasts, tag_lasts, election_lasts, test_lasts, transfer_lasts, demand_lasts, given_lasts}
 
 -- what passes a test is there
 there : {T : Type 0} (f : T → Bool) (o : Option T) → option_map_or f o false ≡ true → is_some o ≡ true
@@ -49,6 +49,10 @@ module _ (h g : Hour) where
       home : (o : Option Party) → option_map_or (λ p. area_is_ciso h p.area) o false ≡ true → option_map_or (λ p. area_is_ciso g p.area) o false ≡ true
       home None e = e
       home (Some p) e = ciso_stays p.area (areas p.area) e
+
+  -- a party that is not of the CISO area was not of it before
+  entered_stays : (p : Party) → (is_some (area_of h p.area) ≡ true → area_of g p.area ≡ area_of h p.area) → AsEntered h p → AsEntered g p
+  entered_stays p kept e other = e (grind (arith, other, ciso_stays p.area kept))
 
 -- a test passes or fails
 by_test : {P : Type 0} (b : Bool) → (b ≡ true → P) → (b ≡ false → P) → P
@@ -91,6 +95,7 @@ module _ (h : Hour) (s : Sound h) where
             (λ n. grind (arith, count_none (λ p. p.area == i) h.parties.rows (homeless i n)));
         homes = All-weaker _ _ (λ p e. ap is_some (kept p.area e) ∙ e) h.parties.rows s.homes;
         owners = All-weaker _ _ (λ r e. of_ciso_stays h g r.owner kept (λ _. refl) e) h.resources.rows s.owners;
+        as_entered = All-weaker (AsEntered h) (AsEntered g) (λ p. entered_stays h g p (kept p.area)) h.parties.rows s.as_entered;
         whole_areas = All-push WholeArea h.areas.rows a s.whole_areas (whole_area (as_id id) kind);
         whole_parties = s.whole_parties;
         whole_resources = s.whole_resources;
@@ -110,6 +115,7 @@ module _ (h : Hour) (s : Sound h) where
         single = λ i w. single_more i p (grind (arith, fits)) w;
         homes = All-push (λ p. is_some (area_of h p.area) ≡ true) h.parties.rows p s.homes (grind (arith, fits));
         owners = All-weaker _ _ (λ r e. of_ciso_stays h g r.owner (λ _ _. refl) (find_kept (λ x. x.id == r.owner) h.parties.rows p) e) h.resources.rows s.owners;
+        as_entered = All-push (AsEntered h) h.parties.rows p s.as_entered (λ _. refl);
         whole_areas = s.whole_areas;
         whole_parties = All-push WholeParty h.parties.rows p s.whole_parties (whole_party (as_id id) (as_id area));
         whole_resources = s.whole_resources;
@@ -128,6 +134,7 @@ module _ (h : Hour) (s : Sound h) where
         single = s.single;
         homes = s.homes;
         owners = All-push (λ r. party_is_of_ciso h r.owner ≡ true) h.resources.rows r s.owners (grind (arith, fits));
+        as_entered = s.as_entered;
         whole_areas = s.whole_areas;
         whole_parties = s.whole_parties;
         whole_resources = All-push WholeResource h.resources.rows r s.whole_resources (whole_resource (as_id id) (as_id owner) kind (flag net) (flag exempt));
@@ -135,13 +142,6 @@ module _ (h : Hour) (s : Sound h) where
 
 more_ids : {T : Type 0} (key : T → ℕ) (xs : List T) (y : T) → Extends key xs (xs ++ y ∷ [])
 more_ids key xs y = (key y ∷ [], map-append key xs (y ∷ []))
-
-none_new : (h : Hour) → Grows h h
-none_new h = record {
-  areas = same_ids area_id h.areas.rows h.areas.rows refl;
-  parties = same_ids party_id h.parties.rows h.parties.rows refl;
-  resources = same_ids resource_id h.resources.rows h.resources.rows refl;
-}
 
 -- sound records stay so after an accepted call, and only grow
 lasts_made : (call : Call) (h : Hour) → first_fit (reasons call h) ≡ None → Sound h → Lasts h (made_by call h)
@@ -176,8 +176,8 @@ lasts_made (PostTag id interval post) h e s = tag_lasts h s id interval post
 lasts_made (PostElection id post) h e s = election_lasts h s id post
 lasts_made (PostTest id quarter post) h e s = test_lasts h s id quarter post
 lasts_made (PostTransfer id interval post) h e s = transfer_lasts h s id interval post
-lasts_made (PostDemand id interval units) h e s = demand_lasts h s id interval units
-lasts_made (PostGiven id interval code cents) h e s = given_lasts h s id interval code cents
+lasts_made (PostDemand id interval units) h e s = demand_lasts h s id interval units e
+lasts_made (PostGiven id interval code cents) h e s = given_lasts h s id interval code cents e
 
 -- and after any call
 pub lasts_left : (call : Call) (h : Hour) → Sound h → Lasts h (left_by call h)

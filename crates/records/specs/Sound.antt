@@ -1,15 +1,20 @@
 -- What is true of the records of every hour, and how accepted calls change them. Assumes nothing.
-use Rattle.std.specs.Prelude.{◌≡◌, ℕ, ◌≤◌, ◌==◌, true, List, map, ◌++◌, None, is_some}
+use Rattle.std.specs.Prelude.{◌≡◌, ℕ, ◌≤◌, ◌==◌, true, false, List, map, ◌++◌, None, is_some}
 use Rattle.std.specs.List.{All, count_by}
 use Rattle.tables.specs.Keyed.{Keyed}
 use Rattle.tables.specs.Refusals.{first_fit}
-use Rattle.rows.specs.Rows.{WholeArea, WholeParty, WholeResource}
+use Rattle.rows.specs.declared.party.Party.{Party}
+use Rattle.rows.specs.Rows.{new_party, WholeArea, WholeParty, WholeResource}
 use Rattle.records.specs.declared.call.Call.{Call}
 use Rattle.records.specs.declared.hour.Hour.{Hour}
 use Rattle.rows.specs.Kinds.{is_ciso}
 use Rattle.records.specs.Ranges.{most_areas, most_parties, most_resources}
-use Rattle.records.specs.Hours.{area_id, party_id, resource_id, area_of, area_is_weim, party_is_of_ciso}
+use Rattle.records.specs.Hours.{area_id, party_id, resource_id, area_of, area_is_ciso, area_is_weim, party_is_of_ciso}
 use Rattle.records.specs.Calls.{reasons, made_by}
+
+-- a party is as it was entered, where it is not of the CISO area
+abbrev pub AsEntered : Hour → Party → Type 0
+AsEntered h p = area_is_ciso h p.area ≡ false → p ≡ new_party p.id p.area
 
 pub record Sound (h : Hour) : Type 0 where
   -- in each table every row has an id of its own, and there is room for the rows
@@ -24,6 +29,8 @@ pub record Sound (h : Hour) : Type 0 where
   pub homes : All (λ p. is_some (area_of h p.area) ≡ true) h.parties.rows
   -- the owner of each resource is entered, and is of the CISO area
   pub owners : All (λ r. party_is_of_ciso h r.owner ≡ true) h.resources.rows
+  -- for a party outside the CISO area nothing is posted
+  pub as_entered : All (AsEntered h) h.parties.rows
   -- for each row a record stands in each quarter and each interval
   pub whole_areas : All WholeArea h.areas.rows
   pub whole_parties : All WholeParty h.parties.rows

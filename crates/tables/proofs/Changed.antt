@@ -1,9 +1,8 @@
 -- What changing a row by its id comes to. Assumes nothing.
 use Rattle.std.proofs.Common.{◌≡◌, refl, sym, ap, ◌∙◌, ℕ, ◌==◌, map, Option, Some, None, slice_set, slice_index_or, arith, Bool, true, false, cond, [], ◌∷◌, subst, List, length, nat_lt, find}
 use Rattle.std.specs.List.{All}
-use Rattle.std.specs.List.{All}
 use Rattle.std.specs.Option.{option_map_or}
-use Rattle.std.proofs.lemmas.List.Elements.{All-head, All-tail}
+use Rattle.std.proofs.lemmas.List.Elements.{All-head, All-set, All-tail}
 use Rattle.std.proofs.lemmas.List.Folds.{find-set}
 use Rattle.std.proofs.lemmas.List.{set-get_or}
 use Rattle.std.proofs.Math.Seq.{map-set_same}
@@ -68,6 +67,15 @@ module _ {T : Type 0} (key : T → ℕ) (id : ℕ) (t : Table T) where
       at None there = refl
       at (Some i) there = ap (λ rows. record t { rows = rows }) (ap (slice_set t.rows i) (sym (stands x i e there)) ∙ set-get_or t.rows i x)
 
+  -- what holds of all rows, and of the one that is put in the place of one of them, holds of all afterwards
+  replaced_all : (P : T → Type 0) (y : T) → P y → All P t.rows → All P (with_replaced key id t y).rows
+  unfolding with_replaced
+  replaced_all P y new h = at (place key id t.rows)
+    where
+      at : (o : Option ℕ) → All P (option_map_or (λ i. slice_set t.rows i y) o t.rows)
+      at None = h
+      at (Some i) = All-set P t.rows i y new h
+
   -- the row that was put in its place is found under the id
   replaced_found : (x y : T) → found key id t.rows ≡ Some x → key y ≡ key x → found key id (with_replaced key id t y).rows ≡ Some y
   unfolding with_replaced
@@ -93,6 +101,14 @@ module _ {T : Type 0} (key : T → ℕ) (id : ℕ) (t : Table T) where
         at : (o : Option T) → found key id t.rows ≡ o → map look (changed key id change t).rows ≡ map look t.rows
         at None e = ap (λ u. map look u.rows) (unchanged change e)
         at (Some x) e = ap (λ u. map look u.rows) (changed_found change x e) ∙ looks_same look x (change x) e (same x)
+
+    -- what holds of all rows, and of the one that is found, changed, holds of all afterwards
+    pub changed_all : (P : T → Type 0) → ((x : T) → found key id t.rows ≡ Some x → P (change x)) → All P t.rows → All P (changed key id change t).rows
+    changed_all P new h = at (found key id t.rows) refl
+      where
+        at : (o : Option T) → found key id t.rows ≡ o → All P (changed key id change t).rows
+        at None e = subst (λ u. All P u.rows) (sym (unchanged change e)) h
+        at (Some x) e = subst (λ u. All P u.rows) (sym (changed_found change x e)) (replaced_all P (change x) (new x e) h)
 
     -- the room stays
     pub changed_room : (changed key id change t).most ≡ t.most
