@@ -3,5 +3,6 @@ pub mod Ranges
 pub mod Hours
 pub mod Calls
 pub mod Readings
+pub mod Trial
 pub mod Standing
 pub mod Sound

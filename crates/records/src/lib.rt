@@ -9,6 +9,7 @@ mod placing;
 mod posting;
 mod readings;
 mod records;
+mod trial;
 
 pub use call::Call;
 pub use hour::{MOST_AREAS, MOST_PARTIES, MOST_RESOURCES};

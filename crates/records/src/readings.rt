@@ -71,7 +71,7 @@ impl Hour {
 }
 
 // What is read, or the refusal with its place.
-fn told<T>(read: Result<T, Reason>, interval: i64, id: i64) -> Result<T, Refusal>
+pub(super) fn told<T>(read: Result<T, Reason>, interval: i64, id: i64) -> Result<T, Refusal>
     ensures { result ≡ told (at interval id) read }
 {
     read.map_err(|reason| refused(reason, Place { interval, id }))
