@@ -1,4 +1,3 @@
-pub mod Totals
 pub mod Limits
 pub mod Arrays
 pub mod Intervals

@@ -1,14 +1,14 @@
 -- The pool and the weights of a tie's hour are inside the limits of sharing. Assumes nothing.
-use Rattle.std.proofs.Common.{◌≡◌, ◌≤◌, max, true, false, cond, List, length, get_or, arith}
+use Rattle.std.proofs.Common.{◌≡◌, ◌≤◌, max, true, false, cond, List, map, length, get_or, unsigned_abs, arith}
 use Rattle.std.specs.List.{All}
 use Rattle.std.proofs.lemmas.List.{length-map}
 use Rattle.std.proofs.lemmas.List.Elements.{All-map}
 use Rattle.std.proofs.lemmas.List.Sums.{sum_by-le}
 use Rattle.sharing.specs.Limits.{Within}
+use Rattle.sharing.proofs.Totals.{total_within}
 use Rattle.deemed.specs.declared.tag.Tag.{Tag}
 use Rattle.deemed.specs.Ranges.{hour_length, most_kw, most_telemetry}
 use Rattle.deemed.specs.Tags.{flowed, interval_weight, weight, weights, pool}
-use Rattle.deemed.proofs.Totals.{total_within}
 
 weight_within : (t : Tag) → weight t ≤ most_telemetry
 unfolding interval_weight
@@ -21,7 +21,7 @@ within_limits ts long =
     let count : length (weights ts) ≡ length ts = length-map ts weight in
     let within : All (λ w. w ≤ most_telemetry) (weights ts) = All-map (λ w. w ≤ most_telemetry) weight ts (λ i t h. weight_within (get_or ts i t)) in
     record {
-      pool = omega (arith, total_within (λ (t : Tag). t.kw.0) most_kw (λ t. t.scheduled) ts);
+      pool = omega (arith, length-map ts (λ t. t.kw.0), total_within most_kw (map (λ t. t.kw.0) ts) (All-map (λ z. unsigned_abs z ≤ most_kw) (λ t. t.kw.0) ts (λ i t h. (get_or ts i t).scheduled)));
       count = omega arith;
       each = λ i h. within i 0 h;
       total = omega (arith, sum_by-le (λ x. x) most_telemetry (weights ts) within);

@@ -1,14 +1,14 @@
 -- A tie's hour, before and after its energy is shared among the intervals. Assumes nothing.
-use Rattle.std.proofs.Common.{◌≡◌, ℕ, List, map, length, ℤ, pos, Ok, Err, sum, Result, refl, ap, ◌∙◌, arith}
+use Rattle.std.proofs.Common.{◌≡◌, ℕ, List, map, length, ℤ, Ok, Err, Result, refl, ap, ◌∙◌, arith}
 use mathlib.Core.List.{map-map}
 use Rattle.std.proofs.lemmas.List.{length-map}
 use Rattle.sharing.specs.declared.outcome.SharingFault.{SharingFault}
-use Rattle.sharing.specs.declared.outcome.SharingFault.TheVariants.{Limit, NoWeight}
 use Rattle.sharing.specs.Limits.{Within, Shareable}
 use Rattle.sharing.specs.Laws.{Apportioned}
 use Rattle.sharing.specs.Outcome.{Refused}
 use Rattle.sharing.specs.Handing.{SharedOut}
 use Rattle.sharing.proofs.Hands.{same_handed}
+use Rattle.sharing.proofs.Parts.{only_no_weight}
 use Rattle.deemed.specs.declared.quantities.Units.{Units}
 use Rattle.deemed.specs.declared.fault.DeemedFault.{DeemedFault}
 use Rattle.deemed.specs.declared.tag.Tag.{Tag}
@@ -35,11 +35,6 @@ of z = record { 0 = z }
 abbrev pub SharedAmong : {T : Type 0} → (ℤ → List ℕ → List ℤ) → ℤ → TieHour → TieHour → Result T SharingFault → Type 0
 SharedAmong shares p before after r =
     SharedOut weighs (λ i. i.deemed) having (λ u. u.0) of shares p before.intervals after.intervals r
-
--- why a pool inside the limits is refused
-only_no_weight : (p : ℤ) (ws : List ℕ) (f : SharingFault) → Within p ws → Refused p ws f → (f ≡ NoWeight) × (sum ws ≡ 0) × (p ≡ pos 0 → ⊥)
-only_no_weight p ws Limit within why = absurd (why within)
-only_no_weight p ws NoWeight within why = (refl, grind (arith, why.1), λ e. why.1 (λ _. e))
 
 module _ {shares : ℤ → List ℕ → List ℤ} {p : ℤ} {before after : TieHour} (is : p ≡ pool_of before) where
   pub shared_hour : {T : Type 0} (x : T) → SharedAmong shares p before after (Ok x) → Deemed shares before after (Ok x)

@@ -1,0 +1,4 @@
+pub mod Putting
+pub mod Limits
+pub mod SharedParts
+pub mod Areas

@@ -1,0 +1,105 @@
+// The claims of an area's parties on a pool, and the shares put at the parties' places in a column.
+ghost use Rattle.std.specs.Prelude.{◌≡◌, ◌≤◌, map, length, pos, refl};
+ghost use Rattle.sharing.specs.Limits.{most_weights};
+ghost use Rattle.charges.specs.Columns.{parties_in, weight};
+ghost use Rattle.charges.specs.Claims.{claims_in};
+ghost use Rattle.charges.specs.Parts.{GivenTo};
+
+use arrayvec::ArrayVec;
+use rows::{Area, AreaKind, Cents, Interval, Party};
+use sharing::{MOST_WEIGHTS, Recipient};
+
+// What a party weighs, and its share of the pool.
+#[derive(Clone, Copy)]
+pub(crate) struct Claim {
+    pub(crate) weight: u32,
+    pub(crate) share: Cents,
+}
+
+// What an `ArrayVec` is filled with. By hand: `Cents` has no default of its own.
+impl Default for Claim {
+    ghost is_default = { λ c. (c.weight ≡ 0) × (c.share.0 ≡ pos 0) };
+
+    fn default() -> Claim {
+        Claim {
+            weight: 0,
+            share: Cents(0),
+        }
+    }
+}
+
+// Each kind of recipient weighs in its own way; what all owe is the trait.
+impl Recipient for Claim {
+    type Unit = Cents;
+
+    ghost weighs = { λ c. c.weight };
+
+    ghost holds = { λ c. c.share };
+
+    ghost having = { λ c u. record { weight = c.weight; share = u } };
+
+    ghost told = { λ x u. refl };
+
+    ghost restored = { λ x u. refl };
+
+    ghost steady = { λ x u. refl };
+
+    fn weight(&self) -> u32 {
+        self.weight
+    }
+
+    fn take(&mut self, share: Cents) {
+        self.share = share;
+    }
+
+    fn share(&self) -> Cents {
+        self.share
+    }
+}
+
+// What a party weighs in an area of a kind.
+#[tactic(auto, unfolding(crate::specs::Columns::weight))]
+fn weight_of(kind: AreaKind, interval: Interval, party: &Party) -> u32
+    ensures { result ≡ weight kind interval.place party.now }
+{
+    match kind {
+        AreaKind::Ciso => party.demand[interval.place].units.0 as u32,
+        AreaKind::Weim => 1,
+    }
+}
+
+// The claims of an area's parties, in their order.
+pub(crate) fn claims_of(
+    area: &Area,
+    interval: Interval,
+    parties: &[Party],
+) -> ArrayVec<Claim, MOST_WEIGHTS>
+    requires { length parties.now ≤ most_weights }
+    ensures { result.items ≡ claims_in interval.place area.now parties.now }
+{
+    let mut claims = ArrayVec::new();
+    for party in parties {
+        if party.area == area.id {
+            claims.push(Claim {
+                weight: weight_of(area.kind, interval, party),
+                share: Cents(0),
+            });
+        }
+    }
+    claims
+}
+
+// Puts the claims' shares at the places of an area's parties.
+pub(crate) fn put_shares(area: u16, parties: &[Party], claims: &[Claim], column: &mut [Cents])
+    requires room { length parties.now ≤ length column.old }
+    requires one_each { length claims.now ≡ length (parties_in area parties.now) }
+    ensures { GivenTo area parties.now (map (λ c. c.share.0) claims.now) column.old column.new }
+{
+    let mut next = 0;
+    for (i, party) in parties.iter().enumerate() {
+        if party.area == area {
+            column[i] = claims[next].share;
+            next += 1;
+        }
+    }
+}
