@@ -34,3 +34,8 @@ abbrev pub is_tie : ResourceKind → Bool
 is_tie Plain = false
 is_tie StaticTie = true
 is_tie DynamicTie = true
+
+abbrev pub is_dynamic : ResourceKind → Bool
+is_dynamic Plain = false
+is_dynamic StaticTie = false
+is_dynamic DynamicTie = true

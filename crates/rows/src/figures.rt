@@ -207,7 +207,7 @@ impl DeemedEnergy {
     }
 
     #[tactic(auto, unfolding(crate::specs::Figures::as_deemed, crate::specs::Figures::either_way))]
-    pub(crate) fn zero() -> DeemedEnergy
+    pub fn zero() -> DeemedEnergy
         ensures { result ≡ as_deemed (pos 0) }
     {
         DeemedEnergy { units: Units(0) }
