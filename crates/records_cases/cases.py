@@ -2,13 +2,18 @@
 """Writes the cases (stdin) and what they should give (stdout), from docs/records.md and docs/refusals.md, not from the program.
 
 A line is a call, its words parted by one space; `-` is the empty word, and `.` no word at all. `open` begins anew, with so many rows
-of each table. A posting call is named by its kind of record, and so is a reading call, behind `read`.
+of each table. A posting call is named by its kind of record, and so is a reading call, behind `read`. The lines `trial` and `charge`
+are those of charging.py.
 """
 import random
+import sys
 from collections import defaultdict
 from itertools import combinations, product
 from pathlib import Path
 from typing import NamedTuple
+
+sys.dont_write_bytecode = True
+import charging  # noqa: E402
 
 HERE = Path(__file__).parent
 
@@ -68,6 +73,7 @@ CLAUSES = {
     "transfer": ("2 id", "2 slot", "3 field", "4"),
     "demand": ("2 id", "2 slot", "3 field", "4", "6"),
     "given": ("2 id", "2 slot", "3 code", "3 field", "4", "6"),
+    "trial": ("2 id", "2 slot", "3 deemed", "3 field", "4"),
     "read energy": ("2 id", "2 slot", "4"),
     "read tag": ("2 id", "2 slot", "4"),
     "read election": ("2 id", "4"),
@@ -186,6 +192,15 @@ class Records:
             self.posted[record, *key] = fields
         return about, "ok"
 
+    def trial(self, id, interval, *arguments):
+        """A post of energy that is not made, with a deemed energy."""
+        *fields, deemed = arguments
+        about = self.about_posting("energy", (id, interval), fields) | {"3 deemed": deemed not in charging.DEEMED}
+        return about, "" if any(about.values()) else charging.trial_line(self.hour(), id, fields, deemed)
+
+    def hour(self):
+        return charging.Hour(self.areas, self.parties, self.resources, self.posted)
+
     def read(self, record, *key):
         fields = self.posted.get((record, *key), nothing(record).values())
         return self.about_reading(record, *key), " ".join(map(shown, fields))
@@ -193,11 +208,14 @@ class Records:
     def take(self, call, arguments):
         """The clauses that fit, and the line that the call gives. Where none fits, the call is made."""
         *reading, name = call.split(" ")
-        act = self.read if reading else self.post if name in KINDS else self.enter
-        about, line = act(name, *arguments)
+        if name == "trial":
+            about, line = self.trial(*arguments)
+        else:
+            act = self.read if reading else self.post if name in KINDS else self.enter
+            about, line = act(name, *arguments)
         fitting = sorted(clause for clause, fits in about.items() if fits)
         if fitting:
-            slot = arguments[1] if name in KINDS and KINDS[name].key else 0
+            slot = arguments[1] if name == "trial" or name in KINDS and KINDS[name].key else 0
             line = f"refused {fitting[0][0]} part 3 interval {slot} id {arguments[0]}"
         return fitting, line
 
@@ -209,7 +227,7 @@ class Records:
 
 def arguments(call, words):
     """All are numbers, but for the word of a kind or a type."""
-    word = {"area": 1, "resource": 2, "energy": 13}.get(call)
+    word = {"area": 1, "resource": 2, "energy": 13, "trial": 13}.get(call)
     given = [text if place == word else int(text) for place, text in enumerate(words)]
     return [{"-": "", ".": None}.get(argument, argument) for argument in given]
 
@@ -224,6 +242,9 @@ def expected(cases):
             if records:
                 yield from records.lines()
             records = Records(*map(int, words))
+            continue
+        if call == "charge":
+            yield from charging.charge_lines(records.hour(), *words)
             continue
         if call == "read":
             record, *words = words
@@ -485,7 +506,7 @@ def main():
     posts = (field_edges, dispatch_types, codes, span_edges, clause_pairs, misfits)
     cases = [line for lines in rows for line in lines()] + list(drawn(random.Random(180)))
     cases += [line for lines in posts for line in lines()]
-    cases += [*own_records(random.Random(181)), *drawn_posts(random.Random(184))]
+    cases += [*own_records(random.Random(181)), *drawn_posts(random.Random(184)), *charging.lines()]
     with open(HERE / "stdin", "w", encoding="utf-8") as given, open(HERE / "stdout", "w", encoding="utf-8") as wanted:
         print(*cases, sep="\n", file=given)
         print(*expected(cases), sep="\n", file=wanted)
