@@ -3,3 +3,4 @@ pub mod Places
 pub mod Pushed
 pub mod Changed
 pub mod Alike
+pub mod Firsts
