@@ -1,6 +1,6 @@
 -- A column by the areas of its parties. Assumes nothing.
 use Rattle.std.proofs.Common.{◌≡◌, ◌≢◌, ◌==◌, ℕ, suc, true, false, cond, List, [], ◌∷◌, map, length, take, ℤ, pos, ◌+ℤ◌, is_some, refl, sym, ap, ◌∙◌, ⊎_elim, arith}
-use Rattle.std.specs.List.{All, AllPairs, zip}
+use Rattle.std.specs.List.{All, zip}
 use Rattle.std.proofs.lemmas.Bool.{cases_Bool, false≢true, eqb-true, eqb-false, eq-eqb, ne_eqb}
 use Rattle.std.proofs.lemmas.Int.{ints}
 use Rattle.std.proofs.lemmas.List.Elements.{All-nil, All-cons, All-head, All-tail, All-weaker}
@@ -12,16 +12,13 @@ use Rattle.rows.specs.declared.area.Area.{Area}
 use Rattle.rows.specs.declared.party.Party.{Party}
 use Rattle.records.specs.Hours.{area_id}
 use Rattle.charges.specs.Columns.{entries_in, cents_in}
-
--- no two areas have one id
-abbrev Distinct : List Area → Type 0
-Distinct areas = AllPairs (λ x y. x.id ≢ y.id) areas
+use Rattle.charges.specs.Sharing.{Distinct}
 
 -- the area of a party is among them
-abbrev Home : List Area → Party → Type 0
+abbrev pub Home : List Area → Party → Type 0
 Home areas p = is_some (found area_id p.area areas) ≡ true
 
-total_of_0 : {X : Type 0} (xs : List X) → total (map (λ _. pos 0) xs) ≡ pos 0
+pub total_of_0 : {X : Type 0} (xs : List X) → total (map (λ _. pos 0) xs) ≡ pos 0
 total_of_0 [] = refl
 total_of_0 (x ∷ xs) = total_of_0 xs
 

@@ -20,13 +20,21 @@ use Rattle.charges.specs.Columns.{parties_in, entries_in, cents_in, weight, weig
 use Rattle.charges.specs.Claims.{claims_in}
 use Rattle.charges.specs.Parts.{GivenTo, SharedInArea}
 
--- who has an entry
-pub firsts-entries_in : (area : ℕ) (parties : List Party) (column : List Cents) → length parties ≤ length column → map (λ e. e.0) (entries_in area parties column) ≡ parties_in area parties
-firsts-entries_in area [] column room = refl
-firsts-entries_in area (p ∷ ps) [] room = absurd (omega arith)
-firsts-entries_in area (p ∷ ps) (c ∷ cs) room =
-    let rest = firsts-entries_in area ps cs (omega arith) in
-    ⊎_elim (λ e. rw e (ap (λ l. p ∷ l) rest)) (λ e. rw e rest) (cases_Bool (p.area == area))
+none_left : {X : Type 0} (xs : List X) → 0 ≡ length xs → [] ≡ xs
+none_left [] e = refl
+none_left (x ∷ xs) e = absurd (omega arith)
+
+-- who has an entry, where as many entries as parties are of the area
+pub firsts-entries_in : (area : ℕ) (parties : List Party) (column : List Cents) → length (entries_in area parties column) ≡ length (parties_in area parties) → map (λ e. e.0) (entries_in area parties column) ≡ parties_in area parties
+firsts-entries_in area [] column each = refl
+firsts-entries_in area (p ∷ ps) [] each = none_left (parties_in area (p ∷ ps)) each
+firsts-entries_in area (p ∷ ps) (c ∷ cs) each =
+    ⊎_elim
+    (λ e.
+    let f = rw e at each in
+    rw e (ap (λ l. p ∷ l) (firsts-entries_in area ps cs (omega arith))))
+    (λ e. rw e (firsts-entries_in area ps cs (rw e at each)))
+    (cases_Bool (p.area == area))
 
 -- each entry is near its part, where the cents of all are apportioned by what their parties weigh
 near_each : (pool : ℤ) (weighs : Party → ℕ) (es : List (Party × Cents)) → Apportioned pool (map (λ e. weighs e.0) es) (map (λ e. e.1.0) es)
@@ -36,8 +44,18 @@ near_each pool weighs es laws = λ i d h.
     rw (← get_or-map (λ e. weighs e.0) es i d 0 h, ← get_or-map (λ e. e.1.0) es i d (pos 0) h)
     (record { near = λ some. laws.near i some (omega arith); none = λ none. laws.no_weight i none (omega arith) })
 
+-- as they are where an area's parties have lawful shares
+pub near_in_area : (place : ℕ) (pool : ℤ) (area : Area) (parties : List Party) (column : List Cents) → Apportioned pool (weights place area parties) (cents_in area.id parties column)
+    → All (λ e. NearPart pool (sum (weights place area parties)) (weight area.kind place e.0) e.1.0) (entries_in area.id parties column)
+near_in_area place pool area parties column laws =
+    let es : List (Party × Cents) = entries_in area.id parties column in
+    let ws : List ℕ = weights place area parties in
+    let each : length es ≡ length (parties_in area.id parties) = sym (length-map es (λ e. e.1.0)) ∙ laws.one_each ∙ length-map (parties_in area.id parties) (weight area.kind place) in
+    let weigh : ws ≡ map (λ e. weight area.kind place e.0) es = ap (map (weight area.kind place)) (sym (firsts-entries_in area.id parties column each)) ∙ simp map-map in
+    rw weigh (near_each pool (weight area.kind place) es (rw (← weigh) laws))
+
 -- and none is larger than the pool
-within_each : (pool : ℤ) (es : List (Party × Cents)) → All (λ z. unsigned_abs z ≤ unsigned_abs pool) (map (λ e. e.1.0) es) → All (λ e. unsigned_abs e.1.0 ≤ unsigned_abs pool) es
+pub within_each : (pool : ℤ) (es : List (Party × Cents)) → All (λ z. unsigned_abs z ≤ unsigned_abs pool) (map (λ e. e.1.0) es) → All (λ e. unsigned_abs e.1.0 ≤ unsigned_abs pool) es
 within_each pool es each = λ i d h.
     let long : length (map (λ (e : Party × Cents). e.1.0) es) ≡ length es = length-map es (λ e. e.1.0) in
     rw (← get_or-map (λ e. e.1.0) es i d (pos 0) h) (each i (pos 0) (omega arith))
@@ -51,20 +69,18 @@ SharedAmong shares pool before after r =
     SharedOut (λ c. c.weight) (λ c. c.share) (λ c u. record { weight = c.weight; share = u }) (λ u. u.0) (λ z. record { 0 = z }) shares pool before after r
 
 module _ {shares : ℤ → List ℕ → List ℤ} {place : ℕ} {pool : ℤ} {area : Area} {parties : List Party} {claims : List Claim} (are : claims ≡ claims_in place area parties) where
-  pub shared_in_area : {T : Type 0} (x : T) (before after : List Cents) (given : List Claim) → length parties ≤ length before → SharedAmong shares pool claims given (Ok x)
+  pub shared_in_area : {T : Type 0} (x : T) (before after : List Cents) (given : List Claim) → SharedAmong shares pool claims given (Ok x)
       → GivenTo area.id parties (map (λ c. c.share.0) given) before after → SharedInArea shares place pool area parties before after (Ok x)
-  shared_in_area x before after given room s g =
+  shared_in_area x before after given s g =
       let ws : List ℕ = weights place area parties in
       let zs : List ℤ = map (λ c. c.share.0) given in
       let f : Shareable pool ws × (zs ≡ shares pool ws) × Apportioned pool ws zs = rw (← weights_are place area parties claims are) (s.outcome.1, s.told, s.lawful) in
       let laws : Apportioned pool ws (cents_in area.id parties after) = rw g.own f.2 in
-      let weigh : ws ≡ map (λ e. weight area.kind place e.0) (entries_in area.id parties after) =
-      ap (map (weight area.kind place)) (sym (firsts-entries_in area.id parties after (omega (arith, g.long)))) ∙ simp map-map in
       record {
         outcome = (f.0, record { own = g.own ∙ f.1; others = g.others; behind = g.behind; long = g.long });
         kept = tt;
         in_full = laws.in_full f.0;
-        near = rw weigh (near_each pool (weight area.kind place) (entries_in area.id parties after) (rw (← weigh) laws));
+        near = near_in_area place pool area parties after laws;
         within = within_each pool (entries_in area.id parties after) (shares_within pool ws (cents_in area.id parties after) laws);
       }
 

@@ -1,3 +1,11 @@
+pub mod Ranges
 pub mod Columns
 pub mod Claims
 pub mod Parts
+pub mod Energies
+pub mod Amounts
+pub mod Codes
+pub mod Faults
+pub mod Renewing
+pub mod Sharing
+pub mod Charged

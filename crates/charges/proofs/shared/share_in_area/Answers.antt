@@ -16,4 +16,4 @@ pub returns : goal.returns
 returns g c =
     let are : c.deref_mut.result.now ≡ claims_in c.args.interval.place c.args.area.now c.args.parties.now = c.deref_mut.ensures.value ∙ c.claims_of-claims.ensures in
     let given : c.deref.result.now ≡ c.share_out.new.to = c.deref.ensures.0 ∙ take_at _ _ _ (c.share_out.auto.to ∙ ap length c.deref_mut.ensures.value) in
-    shared_in_area are tt c.args.column.now c.put_shares.new.column c.share_out.new.to c.requires.room c.in_ok-share_out.ensures (rw (← given) c.put_shares.ensures)
+    shared_in_area are tt c.args.column.now c.put_shares.new.column c.share_out.new.to c.in_ok-share_out.ensures (rw (← given) c.put_shares.ensures)

@@ -1,0 +1,24 @@
+use Rattle.std.proofs.Common.{◌≤◌, ℕ, unsigned_abs, ap, ◌∙◌, arith}
+use Rattle.std.proofs.lemmas.List.Elements.{All-set}
+use Rattle.rows.specs.declared.figures.Cents.{Cents}
+use Rattle.rows.specs.declared.party.Party.{Party}
+use Rattle.charges.specs.Ranges.{most_imbalance}
+use Rattle.charges.specs.Energies.{with_table}
+use Rattle.charges.specs.Amounts.{amount_6470, no_column}
+use Rattle.charges.proofs.Filling.{filled_more, filled_all}
+use Rattle.charges.proofs.imbalance.imbalance_column.Goals as goal
+
+pub loop-i-preserved : goal.loop-i-preserved
+loop-i-preserved c =
+    let i : ℕ = c.loop-i.i in
+    let Within : Cents → Type 0 = λ c. unsigned_abs c.0 ≤ most_imbalance in
+    let f : Party → Cents = λ p. record { 0 = amount_6470 (with_table c.args.table.now c.args.resources.now) c.args.interval.place p } in
+    record {
+      value =
+          filled_more f c.args.parties.now no_column c.loop-i.column i c.index-parties-i.result c.party_imbalance.result c.loop-i-test.true (omega arith)
+          c.loop-i.invariant.value (ap (λ z. record { 0 = z }) c.party_imbalance.ensures.value ∙ ap f c.index-parties-i.is);
+      within = All-set Within c.loop-i.column i c.party_imbalance.result c.party_imbalance.ensures.within c.loop-i.invariant.within;
+    }
+
+pub returns-clause-value : goal.returns-clause-value
+returns-clause-value c = c.loop-i.invariant.value ∙ filled_all (amount_6470 (with_table c.args.table.now c.args.resources.now) c.args.interval.place) c.args.parties.now c.loop-i.i (omega arith)

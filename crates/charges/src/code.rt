@@ -1,0 +1,54 @@
+// The codes under which a party is charged.
+ghost use Rattle.std.specs.Prelude.{◌≡◌};
+ghost use Rattle.charges.specs.Codes.{charge_code_number, column_under};
+
+use super::amounts::IntervalAmounts;
+use records::MOST_PARTIES;
+use rows::Cents;
+
+#[derive(Clone, Copy, PartialEq, Eq, Debug)]
+pub enum ChargeCode {
+    Cc6470,
+    Cc6474,
+    Cc6475,
+    Cc6476,
+    Cc6477,
+}
+
+impl ChargeCode {
+    // Rising.
+    pub const ALL: [ChargeCode; 5] = [
+        ChargeCode::Cc6470,
+        ChargeCode::Cc6474,
+        ChargeCode::Cc6475,
+        ChargeCode::Cc6476,
+        ChargeCode::Cc6477,
+    ];
+
+    pub fn number(self) -> u16
+        ensures { result ≡ charge_code_number self }
+    {
+        match self {
+            ChargeCode::Cc6470 => 6470,
+            ChargeCode::Cc6474 => 6474,
+            ChargeCode::Cc6475 => 6475,
+            ChargeCode::Cc6476 => 6476,
+            ChargeCode::Cc6477 => 6477,
+        }
+    }
+}
+
+impl IntervalAmounts {
+    // The parties' amounts under a code.
+    pub fn column(&self, code: ChargeCode) -> &[Cents; MOST_PARTIES]
+        ensures { result.now ≡ column_under code self.now }
+    {
+        match code {
+            ChargeCode::Cc6470 => &self.cc_6470,
+            ChargeCode::Cc6474 => &self.cc_6474,
+            ChargeCode::Cc6475 => &self.cc_6475,
+            ChargeCode::Cc6476 => &self.cc_6476,
+            ChargeCode::Cc6477 => &self.cc_6477,
+        }
+    }
+}

@@ -1,0 +1,62 @@
+// The pool of CC 6477, and its shares.
+ghost use Rattle.std.specs.Prelude.{◌≡◌, ◌≤◌, ◌+ℤ◌, neg_ℤ, length, unsigned_abs};
+ghost use Rattle.std.specs.List.{All};
+ghost use Rattle.sharing.specs.Laws.{total};
+ghost use Rattle.rows.specs.Ranges.{most_given};
+ghost use Rattle.records.specs.Ranges.{most_parties};
+ghost use Rattle.charges.specs.Ranges.{most_imbalance, most_amount};
+ghost use Rattle.charges.specs.Amounts.{cents, no_column};
+ghost use Rattle.charges.specs.Sharing.{Distinct, SharedByArea};
+ghost use Rattle.charges.specs.Faults.{offset_fault_of};
+ghost use Rattle.charges.specs.Charged.{offset_shares_of};
+
+use super::fault::ChargeFault;
+use super::shared::share_in_area;
+use records::MOST_PARTIES;
+use rows::{Area, Cents, Interval, Party};
+use sharing::SharingRule;
+
+// What gives back the amounts of three columns.
+pub(crate) fn offset_pool(
+    cc_6470: &[Cents; MOST_PARTIES],
+    cc_6474: &[Cents; MOST_PARTIES],
+    cc_6475: &[Cents; MOST_PARTIES],
+) -> Cents
+    requires cc_6470 { All (λ c. unsigned_abs c.0 ≤ most_imbalance) cc_6470.now }
+    requires cc_6474 { All (λ c. unsigned_abs c.0 ≤ most_given) cc_6474.now }
+    requires cc_6475 { All (λ c. unsigned_abs c.0 ≤ most_given) cc_6475.now }
+    ensures value { result.0 ≡ neg_ℤ (total (cents cc_6470.now) +ℤ total (cents cc_6474.now) +ℤ total (cents cc_6475.now)) }
+    ensures within { unsigned_abs result.0 ≤ most_amount }
+{
+    let mut charged = 0;
+    for i in 0..MOST_PARTIES {
+        charged += cc_6470[i].0 + cc_6474[i].0 + cc_6475[i].0;
+    }
+    Cents(-charged)
+}
+
+// Shares the offset among the parties of the CISO area.
+pub(crate) fn share_offset<R: SharingRule>(
+    rule: &R,
+    pool: Cents,
+    areas: &[Area],
+    parties: &[Party],
+    interval: Interval,
+    column: &mut [Cents],
+) -> Result<(), ChargeFault>
+    requires few { length parties.now ≤ most_parties }
+    requires distinct { Distinct areas.now }
+    requires within { unsigned_abs pool.0 ≤ most_amount }
+    requires empty { column.old ≡ no_column }
+    ensures { SharedByArea (offset_fault_of pool.0 parties.now interval.place) (offset_shares_of (R.SharingRule.shares rule.now) pool.0 parties.now interval.place) areas.now parties.now column.old column.new result }
+{
+    for area in areas {
+        if area.kind.is_ciso() {
+            match share_in_area(rule, pool, area, interval, parties, column) {
+                Ok(()) => {}
+                Err(fault) => return Err(ChargeFault::of_offset(fault, interval, area.id)),
+            }
+        }
+    }
+    Ok(())
+}
