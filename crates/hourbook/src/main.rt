@@ -1,7 +1,8 @@
 // Shares some pools of money, and then the energy of some ties' hours, under both rules; then enters the areas, parties and
-// resources of an hour, posts its records and reads them back.
+// resources of an hour, posts its records and reads them back, and works its charges out.
 #![tactic(auto)]
 
+mod charging;
 mod entering;
 mod figures;
 mod parties;
@@ -13,10 +14,11 @@ mod tags;
 mod ties;
 
 use anyhow::Context;
-use records::Records;
+use charging::print_charges;
 use entering::{AREAS, PARTIES, RESOURCES, print_entries};
 use pools::{POOLS, SamplePool, enter_parties};
 use posting::print_posts;
+use records::Records;
 use sharing::{LargestRemainder, Running};
 use std::io::{BufWriter, Write};
 use table::{HEADER, print_shared};
@@ -44,6 +46,7 @@ fn run(rt: &HostRuntime) -> anyhow::Result<()> {
     let mut records = Records::open(rt.alloc(), AREAS, PARTIES, RESOURCES)?;
     print_entries(&mut out, &mut records)?;
     print_posts(&mut out, &mut records)?;
+    print_charges(&mut out, &mut records)?;
     out.flush()?;
     Ok(())
 }

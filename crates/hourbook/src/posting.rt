@@ -27,7 +27,11 @@ pub(super) fn print_posts(out: &mut impl Write, records: &mut Records) -> io::Re
 }
 
 // Makes the call, and prints it with what became of it.
-fn print_posted(out: &mut impl Write, records: &mut Records, call: Call) -> io::Result<()> {
+pub(super) fn print_posted(
+    out: &mut impl Write,
+    records: &mut Records,
+    call: Call,
+) -> io::Result<()> {
     let outcome = records.take(call);
     print_call(out, call)?;
     match outcome {
@@ -88,7 +92,7 @@ fn read_back(records: &Records, call: Call) -> Result<Call, Refusal> {
 }
 
 // A call with its key, and what of its record is not 0.
-fn print_call(out: &mut impl Write, call: Call) -> io::Result<()> {
+pub(super) fn print_call(out: &mut impl Write, call: Call) -> io::Result<()> {
     let place = call.place();
     write!(out, "{:<9}{:>6}{:>4}", name(call), place.id, place.interval)?;
     match call {

@@ -2,7 +2,7 @@
 use records::Call;
 use rows::{DispatchType, DispatchWord, ElectionPost, EnergyPost, TagPost, TestPost, TransferPost};
 
-const NO_ENERGY: EnergyPost = EnergyPost {
+pub(super) const NO_ENERGY: EnergyPost = EnergyPost {
     lmp: 0,
     mss: 0,
     resprice: 0,
@@ -269,3 +269,76 @@ const POSTS: [Call; 29] = [
 pub(super) fn posts() -> [Call; 29] {
     POSTS
 }
+
+// An energy record that is tried in another's place.
+#[derive(Clone, Copy)]
+pub(super) struct Trial {
+    pub(super) id: i64,
+    pub(super) interval: i64,
+    pub(super) post: EnergyPost,
+    pub(super) deemed: i64,
+}
+
+// The last is refused.
+pub(super) const TRIALS: [Trial; 3] = [
+    Trial {
+        id: 20,
+        interval: 1,
+        post: EnergyPost {
+            lmp: 6_000_000,
+            iie: 12_000,
+            ..NO_ENERGY
+        },
+        deemed: 0,
+    },
+    Trial {
+        id: 30,
+        interval: 1,
+        post: EnergyPost {
+            lmp: 5_000_000,
+            oa: 300,
+            ..NO_ENERGY
+        },
+        deemed: 600,
+    },
+    Trial {
+        id: 20,
+        interval: 1,
+        post: NO_ENERGY,
+        deemed: 120_000_001,
+    },
+];
+
+// What is posted where the hour cannot be worked out without: demand in each interval that has a pool.
+pub(super) const DEMANDS: [Call; 6] = [
+    Call::PostDemand {
+        id: 7,
+        interval: 2,
+        units: 1,
+    },
+    Call::PostDemand {
+        id: 9,
+        interval: 2,
+        units: 2,
+    },
+    Call::PostDemand {
+        id: 7,
+        interval: 3,
+        units: 1,
+    },
+    Call::PostDemand {
+        id: 9,
+        interval: 3,
+        units: 2,
+    },
+    Call::PostDemand {
+        id: 7,
+        interval: 12,
+        units: 1,
+    },
+    Call::PostDemand {
+        id: 9,
+        interval: 12,
+        units: 2,
+    },
+];

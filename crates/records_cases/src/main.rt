@@ -1,13 +1,15 @@
-// Makes the calls of the input on the records of hours, to be compared with an independent calculation.
+// Makes the calls of the input on the records of hours and works hours out, to be compared with an independent calculation.
 #![tactic(auto)]
 
+mod charging;
 mod posting;
 mod reading;
 
 use anyhow::Context;
-use records::Records;
+use charging::{print_charges, print_trial};
 use posting::post;
 use reading::print_reading;
+use records::Records;
 use rows::{AreaKind, Resource, ResourceKind};
 use std::alloc::Global;
 use std::array;
@@ -15,7 +17,7 @@ use std::io::{self, BufRead, BufReader, BufWriter, Write};
 use tables::Refusal;
 
 // The most words that a line has.
-const WORDS: usize = 15;
+const WORDS: usize = 16;
 
 // The word of a kind or a type, as it is given. A line shows the empty word as a dash.
 fn word_bytes(word: &str) -> &[u8] {
@@ -105,7 +107,7 @@ fn take_line(
     current: &mut Option<Records>,
     line: &str,
 ) -> anyhow::Result<()> {
-    let words = words_of(line).context("a call has fifteen words at most")?;
+    let words = words_of(line).context("a call has sixteen words at most")?;
     if let ["open", areas, parties, resources, ..] = words {
         if let Some(records) = current {
             print_tables(out, records)?;
@@ -114,10 +116,12 @@ fn take_line(
         return Ok(());
     }
     let records = current.as_mut().context("no records are open")?;
-    if let ["read", ..] = words {
-        return print_reading(out, records, words);
+    match words {
+        ["read", ..] => print_reading(out, records, words)?,
+        ["trial", ..] => print_trial(out, records, words)?,
+        ["charge", rule, ..] => print_charges(out, records, rule)?,
+        _ => print_outcome(out, enter_or_post(records, words)?)?,
     }
-    print_outcome(out, enter_or_post(records, words)?)?;
     Ok(())
 }
 

@@ -10,7 +10,7 @@ fn dispatch_word(word: &str) -> DispatchWord {
     DispatchWord::of((word != ".").then_some(word_bytes(word)))
 }
 
-fn energy_post(words: [&str; WORDS]) -> anyhow::Result<EnergyPost> {
+pub(super) fn energy_post(words: [&str; WORDS]) -> anyhow::Result<EnergyPost> {
     let [
         _name,
         _id,
@@ -27,6 +27,7 @@ fn energy_post(words: [&str; WORDS]) -> anyhow::Result<EnergyPost> {
         edqty,
         resflag,
         ed,
+        ..
     ] = words;
     Ok(EnergyPost {
         lmp: lmp.parse()?,

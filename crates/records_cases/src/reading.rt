@@ -1,8 +1,8 @@
 // Prints what stands in the records.
 use super::WORDS;
 use anyhow::bail;
-use records::Records;
 use deemed::Tag;
+use records::Records;
 use rows::{Election, EnergyRecord, GivenAmount, SufficiencyTest, Transfer, Volume};
 use std::io::{self, Write};
 use tables::Refusal;
