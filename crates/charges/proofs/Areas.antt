@@ -72,23 +72,6 @@ total_by_area areas (p ∷ ps) (c ∷ cs) distinct homes =
 without_first : (P : Party × Cents → Type 0) (area : ℕ) (p : Party) (ps : List Party) (c : Cents) (cs : List Cents) → All P (entries_in area (p ∷ ps) (c ∷ cs)) → All P (entries_in area ps cs)
 without_first P area p ps c cs each = ⊎_elim (λ e. All-tail P (p, c) (entries_in area ps cs) (rw e at each)) (λ e. rw e at each) (cases_Bool (p.area == area))
 
--- where the parties outside an area have nothing, the total of a column is what those inside have
-pub total_of_one : (area : ℕ) (parties : List Party) (column : List Cents) → ((other : ℕ) → other ≢ area → All (λ e. e.1.0 ≡ pos 0) (entries_in other parties column))
-    → total (map (λ c. c.0) (take (length parties) column)) ≡ total (cents_in area parties column)
-total_of_one area [] column none = refl
-total_of_one area (p ∷ ps) [] none = refl
-total_of_one area (p ∷ ps) (c ∷ cs) none =
-    let Nothing : Party × Cents → Type 0 = λ e. e.1.0 ≡ pos 0 in
-    let later : ℤ = total (map (λ c. c.0) (take (length ps) cs)) in
-    let rest = total_of_one area ps cs (λ other ne. without_first Nothing other p ps c cs (none other ne)) in
-    let first = total-cons c.0 (map (λ c. c.0) (take (length ps) cs)) in
-    ⊎_elim
-    (λ e. rw e (first ∙ ap (λ z. c.0 +ℤ z) rest ∙ sym (total-cons c.0 (cents_in area ps cs))))
-    (λ e.
-    let own : All Nothing ((p, c) ∷ entries_in p.area ps cs) = rw (eq-eqb p.area p.area refl) at (none p.area (eqb-false p.area area e)) in
-    rw e (first ∙ ap (λ z. z +ℤ later) (All-head Nothing (p, c) (entries_in p.area ps cs) own) ∙ omega (arith, ints, rest)))
-    (cases_Bool (p.area == area))
-
 -- what holds of all areas holds of the one that is found
 at_found : (Q : Area → Type 0) (id : ℕ) (areas : List Area) → All Q areas → is_some (found area_id id areas) ≡ true → (a : Area) × (id ≡ a.id) × Q a
 at_found Q id [] each home = absurd (false≢true home)

@@ -20,7 +20,7 @@ use Rattle.charges.specs.Charged.{offset_shares_of, IntervalCharged}
 use Rattle.charges.proofs.Totals.{total_of_sums, total_of_column}
 
 -- what gives back the three columns is the pool of CC 6477
-pub offset_of_columns : (resources : List Resource) (parties : List Party) (place : ℕ) (a b c : List Cents)
+offset_of_columns : (resources : List Resource) (parties : List Party) (place : ℕ) (a b c : List Cents)
     → a ≡ column (amount_6470 resources place) parties → b ≡ column (amount_6474 place) parties → c ≡ column (amount_6475 place) parties
     → neg_ℤ (total (cents a) +ℤ total (cents b) +ℤ total (cents c)) ≡ offset_pool resources parties place
 unfolding offset_pool

@@ -1,7 +1,7 @@
 -- The new deemed energies of a resource. Assumes nothing.
 use Rattle.std.proofs.Common.{◌≡◌, ◌<◌, ◌≤◌, ℕ, false, List, [], ◌∷◌, ◌++◌, map, length, get_or, ℤ, pos, sum, unsigned_abs, refl, ap, ◌∙◌, arith}
 use Rattle.std.specs.List.{All, zip}
-use Rattle.std.proofs.lemmas.List.{length-map, length-replicate}
+use Rattle.std.proofs.lemmas.List.{length-map}
 use Rattle.std.proofs.lemmas.List.Elements.{All-head, All-tail, All-map, All-replicate, All-weaker, All-from_get_or}
 use Rattle.std.proofs.lemmas.Slice.Zip.{length-zip, get_or-zip}
 use Rattle.sharing.specs.Laws.{Apportioned, Lawful, total}
@@ -9,7 +9,7 @@ use Rattle.sharing.proofs.Totals.{total_within}
 use Rattle.sharing.proofs.Parts.{shares_within}
 use Rattle.deemed.specs.declared.tag.Tag.{Tag}
 use Rattle.deemed.specs.Ranges.{hour_length, most_kw}
-use Rattle.deemed.specs.Tags.{pool, weight, weights}
+use Rattle.deemed.specs.Tags.{pool, weights}
 use Rattle.deemed.specs.Deemed.{NearPart}
 use Rattle.rows.specs.declared.figures.DeemedEnergy.{DeemedEnergy}
 use Rattle.rows.specs.declared.kinds.ResourceKind.{ResourceKind}
@@ -61,19 +61,10 @@ module _ {shares : ℤ → List ℕ → List ℤ} (lawful : Lawful shares) where
       let size : unsigned_abs p ≤ most_deemed = omega (arith, length-map r.tags (λ t. t.kw.0), total_within most_kw (map (λ t. t.kw.0) r.tags) (scheduled_within r.tags)) in
       All-weaker (λ z. unsigned_abs z ≤ unsigned_abs p) InRange (λ z le. omega arith) (shares p ws) (shares_within p ws (shares p ws) (lawful p ws))
 
-  length_by_kind : (kind : ResourceKind) (r : Resource) → length r.tags ≡ hour_length → length (energies_by_kind shares kind r) ≡ hour_length
-  length_by_kind Plain r long = length-replicate hour_length (pos 0)
-  length_by_kind StaticTie r long = length-map r.tags (λ t. t.kw.0) ∙ long
-  length_by_kind DynamicTie r long = (lawful (pool r.tags) (weights r.tags)).one_each ∙ length-map r.tags weight ∙ long
-
   pub energies_within : (r : Resource) → length r.tags ≡ hour_length → All (λ z. unsigned_abs z ≤ most_deemed) (energies_by_kind shares r.kind r)
   energies_within r long = within_by_kind r.kind r long
 
-  pub length-new_energies : (r : Resource) → WholeResource r → length (new_energies shares r) ≡ hour_length
-  unfolding new_energies
-  length-new_energies r whole = length-map (energies_by_kind shares r.kind r) as_deemed ∙ length_by_kind r.kind r whole.1
-
-  pub counts_are : (r : Resource) → length r.tags ≡ hour_length → counts (new_energies shares r) ≡ energies_by_kind shares r.kind r
+  counts_are : (r : Resource) → length r.tags ≡ hour_length → counts (new_energies shares r) ≡ energies_by_kind shares r.kind r
   unfolding new_energies
   counts_are r long = counts_of (energies_by_kind shares r.kind r) (energies_within r long)
 

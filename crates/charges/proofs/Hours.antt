@@ -39,7 +39,7 @@ module _ {R : Type 0} (faults : ℕ → List (Fit R)) where
   pub none_at_next : (n : ℕ) → first_fit (so_far n) ≡ None → first_fit (faults n) ≡ None → first_fit (so_far (n + 1)) ≡ None
   none_at_next n none here = rw (add-one n, one_more n) (first_fit-append (so_far n) (faults n) none ∙ here)
 
-  pub none_at : (n i : ℕ) → i < n → first_fit (so_far n) ≡ None → first_fit (faults i) ≡ None
+  none_at : (n i : ℕ) → i < n → first_fit (so_far n) ≡ None → first_fit (faults i) ≡ None
   none_at zero i in' none = absurd (omega arith)
   none_at (suc n) i in' none =
       let both = first_fit-neither (so_far n) (faults n) (rw (one_more n) at none) in

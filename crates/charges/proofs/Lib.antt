@@ -20,3 +20,4 @@ pub mod Energies
 pub mod Renewing
 pub mod AreasSoFar
 pub mod Hours
+pub mod Answered

@@ -40,19 +40,20 @@ pub record IntervalCharged (shares : ℤ → List ℕ → List ℤ) (areas : Lis
   pub cc_6476 : All (λ a. cents_in a.id parties x.cc_6476 ≡ shares (area_pool place a) (weights place a parties)) areas
   pub cc_6476_rest : drop (length parties) x.cc_6476 ≡ rest parties
   -- those of the CISO area share the offset
-  pub offset_is : x.offset.0 ≡ offset_pool resources parties place
   pub cc_6477 : All (λ a. cents_in a.id parties x.cc_6477 ≡ offset_shares shares resources parties place a) areas
   pub cc_6477_rest : drop (length parties) x.cc_6477 ≡ rest parties
+  pub offset_is : x.offset.0 ≡ offset_pool resources parties place
   pub balance_is : x.balance.0 ≡ balance areas place
-
-abbrev Bounded : List Cents → Type 0
-Bounded column = All (λ c. unsigned_abs c.0 ≤ most_amount) column
 
 -- worked out where no fault fits, and else refused by the first that does
 abbrev pub IntervalWorkedOut : (ℤ → List ℕ → List ℤ) → List Area → List Party → List Resource → ℕ → Result IntervalAmounts ChargeFault → Type 0
 IntervalWorkedOut shares areas parties resources place (Ok x) =
     (first_fit (interval_faults areas parties resources place) ≡ None) × IntervalCharged shares areas parties resources place x
 IntervalWorkedOut shares areas parties resources place (Err f) = first_fit (interval_faults areas parties resources place) ≡ Some f
+
+-- no larger than the largest amount
+abbrev pub Bounded : List Cents → Type 0
+Bounded column = All (λ c. unsigned_abs c.0 ≤ most_amount) column
 
 -- what holds of the amounts of an interval, whatever the rule
 pub record IntervalLaws (areas : List Area) (parties : List Party) (resources : List Resource) (place : ℕ) (x : IntervalAmounts) : Type 0 where

@@ -51,12 +51,12 @@ pub(crate) fn share_offset<R: SharingRule>(
     ensures { SharedByArea (offset_fault_of pool.0 parties.now interval.place) (offset_shares_of (R.SharingRule.shares rule.now) pool.0 parties.now interval.place) areas.now parties.now column.old column.new result }
 {
     for area in areas {
-        if area.kind.is_ciso() {
-            match share_in_area(rule, pool, area, interval, parties, column) {
-                Ok(()) => {}
-                Err(fault) => return Err(ChargeFault::of_offset(fault, interval, area.id)),
-            }
+        if !area.kind.is_ciso() {
+            continue;
         }
+        share_in_area(rule, pool, area, interval, parties, column).map_err(|fault| {
+            ChargeFault::of_offset(fault, interval, area.id)
+        })?;
     }
     Ok(())
 }

@@ -43,10 +43,9 @@ pub(crate) fn share_surcharges<R: SharingRule>(
 {
     for area in areas {
         let pool = area_pool(area, interval);
-        match share_in_area(rule, pool, area, interval, parties, column) {
-            Ok(()) => {}
-            Err(fault) => return Err(ChargeFault::of_surcharge(fault, interval, area.id)),
-        }
+        share_in_area(rule, pool, area, interval, parties, column).map_err(|fault| {
+            ChargeFault::of_surcharge(fault, interval, area.id)
+        })?;
     }
     Ok(())
 }

@@ -1,5 +1,5 @@
 -- The price of exceptional dispatches. Assumes nothing.
-use Rattle.std.specs.Prelude.{Bool, cond, ℤ, pos, ◌*ℤ◌, int_lt}
+use Rattle.std.specs.Prelude.{cond, ℤ, pos, ◌*ℤ◌, int_lt}
 use Rattle.std.specs.Option.{option_map_or}
 use Rattle.rows.specs.declared.figures.Price.{Price}
 use Rattle.rows.specs.declared.dispatch.DispatchClass.{DispatchClass}

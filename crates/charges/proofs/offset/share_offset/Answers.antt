@@ -1,44 +1,53 @@
-use Rattle.std.proofs.Common.{◌≡◌, ◌+◌, ℕ, List, map, true, false, ℤ, pos, refl, sym, ap, ◌∙◌}
+use Rattle.std.proofs.Common.{◌≡◌, ◌+◌, ℕ, List, map, true, false, pos, Ok, Err, refl, ap, ◌∙◌, rules}
+use Rattle.std.specs.Result.{MatchResult}
+use Rattle.std.proofs.lemmas.Result.{err_from_is_err_and, MatchResult-weaker}
 use Rattle.sharing.specs.declared.outcome.SharingFault.TheVariants.{NoWeight}
 use Rattle.tables.specs.declared.refusal.Reason.TheVariants.{NoDemand}
 use Rattle.rows.specs.declared.area.Area.{Area}
 use Rattle.rows.specs.Kinds.{is_ciso}
 use Rattle.records.specs.Ranges.{most_parties}
 use Rattle.charges.specs.Columns.{parties_in, cents_in, weights}
-use Rattle.charges.specs.Faults.{fault_at, unshareable}
-use Rattle.charges.proofs.Shareable.{not_unshareable, unshareable_is}
+use Rattle.charges.specs.Faults.{fault_at}
+use Rattle.charges.specs.Parts.{GivenTo}
+use Rattle.charges.proofs.Answered.{Answered, answered}
 use Rattle.charges.proofs.AreasSoFar.{one_shared, one_passed, one_refused, cents_of_none}
+use Rattle.charges.proofs.offset.share_offset.Given.{Over}
 use Rattle.charges.proofs.offset.share_offset.Goals as goal
-use Rattle.charges.proofs.offset.share_offset.Goals.{then-is_ciso+in-Ok, else-is_ciso}
+use Rattle.charges.proofs.offset.share_offset.Goals.{After-map_err}
+
+-- what is known of the CISO area, whatever was answered
+area_shared : (g : Over) (c : After-map_err g)
+    → Answered c.args.pool.0 (weights c.args.interval.place c.area-item.result c.args.parties.now)
+    (GivenTo c.area-item.result.id c.args.parties.now (g.R.SharingRule.shares c.args.rule.now c.args.pool.0 (weights c.args.interval.place c.area-item.result c.args.parties.now)) c.loop-area.column c.share_in_area.new.column)
+    (fault_at NoDemand NoWeight (c.args.interval.place + 1) c.area-item.result.id) c.map_err.result
+area_shared g c =
+    let place : ℕ = c.args.interval.place in
+    let x : Area = c.area-item.result in
+    let answers : MatchResult c.share_in_area.result (λ y. c.map_err.result ≡ Ok y) (λ f. c.map_err.result ≡ Err (fault_at NoDemand f.0 (place + 1) x.id)) =
+    MatchResult-weaker c.share_in_area.result c.map_err.ensures.cases (λ y is. is) (λ f is. let p = err_from_is_err_and c.map_err.result is in p.1 ∙ ap Err (search rules)) in
+    answered NoDemand (place + 1) x.id c.args.pool.0 (weights place x c.args.parties.now) _ c.share_in_area.result c.map_err.result answers c.share_in_area.ensures.outcome
+
+pub loop-area-preserved-then-not-is_ciso : goal.loop-area-preserved-then-not-is_ciso
+loop-area-preserved-then-not-is_ciso g c =
+    let x : Area = c.area-item.result in
+    let weim : is_ciso x.kind ≡ false = search rules in
+    let nothing = cents_of_none x.id c.args.parties.now most_parties c.requires.few in
+    let before : cents_in x.id c.args.parties.now c.args.column.now ≡ map (λ _. pos 0) (parties_in x.id c.args.parties.now) =
+    ap (cents_in x.id c.args.parties.now) c.requires.empty ∙ nothing in
+    one_passed x c.loop-area-test.true c.area-item.is c.loop-area.invariant c.requires.distinct (rw weim refl) (rw weim before)
 
 pub loop-area-preserved : goal.loop-area-preserved
 loop-area-preserved g c =
-    let place : ℕ = c.args.interval.place in
     let x : Area = c.area-item.result in
-    let ws : List ℕ = weights place x c.args.parties.now in
-    elim c.if-is_ciso.branch [
-      | then-is_ciso+in-Ok w ↦
-          let ciso : is_ciso x.kind ≡ true = sym w.if-is_ciso.ensures in
-          let cents : List ℤ = g.R.SharingRule.shares c.args.rule.now c.args.pool.0 ws in
-          let done = w.in-Ok.ensures.outcome in
-          let fits : unshareable c.args.pool.0 ws ≡ false = not_unshareable c.args.pool.0 ws done.0 in
-          rw w.column-is (one_shared x c.loop-area-test.true c.area-item.is c.loop-area.invariant c.requires.distinct (rw ciso fits) w.share_in_area.new.column cents (rw ciso refl) done.1)
-      | else-is_ciso w ↦
-          let weim : is_ciso x.kind ≡ false = sym w.if-is_ciso.ensures in
-          let nothing = cents_of_none x.id c.args.parties.now most_parties c.requires.few in
-          let before : cents_in x.id c.args.parties.now c.args.column.now ≡ map (λ _. pos 0) (parties_in x.id c.args.parties.now) =
-          ap (cents_in x.id c.args.parties.now) c.requires.empty ∙ nothing in
-          rw w.column-is (one_passed x c.loop-area-test.true c.area-item.is c.loop-area.invariant c.requires.distinct (rw weim refl) (rw weim before))
-    ]
+    let ws : List ℕ = weights c.args.interval.place x c.args.parties.now in
+    let ciso : is_ciso x.kind ≡ true = search rules in
+    let done = rw c.in_ok-map_err.was at (area_shared g (goal.at.loop-area-preserved g c).After-map_err) in
+    one_shared x c.loop-area-test.true c.area-item.is c.loop-area.invariant c.requires.distinct (rw ciso done.0) c.share_in_area.new.column (g.R.SharingRule.shares c.args.rule.now c.args.pool.0 ws) (rw ciso refl) done.1
 
-pub returns-in-Err : goal.returns-in-Err
-returns-in-Err g c =
-    let place : ℕ = c.args.interval.place in
+pub returns-in_err-map_err : goal.returns-in_err-map_err
+returns-in_err-map_err g c =
     let x : Area = c.area-item.result in
-    let ws : List ℕ = weights place x c.args.parties.now in
-    let ciso : is_ciso x.kind ≡ true = sym c.if-is_ciso.ensures in
-    let why = c.in-Err.ensures.outcome in
-    let fits : unshareable c.args.pool.0 ws ≡ true = unshareable_is c.args.pool.0 ws why.1 why.2 in
-    let whole : c.of_offset.result ≡ fault_at NoDemand NoWeight (place + 1) x.id =
-    c.of_offset.ensures ∙ ap (λ f. fault_at NoDemand f (place + 1) x.id) why.0 in
-    rw whole (one_refused x c.loop-area-test.true c.area-item.is c.loop-area.invariant (rw ciso fits))
+    let ciso : is_ciso x.kind ≡ true = search rules in
+    let why = rw c.in_err-map_err.was at (area_shared g (goal.at.returns-in_err-map_err g c).After-map_err) in
+    let p = err_from_is_err_and c.from_residual.result c.from_residual.ensures.1 in
+    rw (p.1, p.2, why.1) (one_refused x c.loop-area-test.true c.area-item.is c.loop-area.invariant (rw ciso why.0))
