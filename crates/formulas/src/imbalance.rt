@@ -64,7 +64,7 @@ fn settled_energy(kind: ResourceKind, energy: &EnergyRecord, deemed: DeemedEnerg
     Units(energy.iie.units.0 + adjustment.0 + energy.mssiie.units.0 + energy.above.units.0)
 }
 
-// What is paid for energy: its parts in all, and below 0.
+// Energy is paid for: minus the total of its parts.
 fn payment(settled: Products, residual: Products, dispatched: Products) -> Products
     requires settled { unsigned_abs settled.0 ≤ most_product }
     requires residual { unsigned_abs residual.0 ≤ most_product }

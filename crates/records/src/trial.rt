@@ -51,6 +51,7 @@ fn tried(
     imbalance_products(terms, trial.slot, deemed)
 }
 
+// The same in a table, where the resource is entered; the table is as before.
 #[tactic(auto, using(tables::proofs::Changed::replaced_same))]
 fn try_energy(
     resources: &mut Table<Resource>,
