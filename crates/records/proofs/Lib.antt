@@ -1,3 +1,4 @@
 pub mod Standing
 pub mod SoundPosted
 pub mod SoundAfter
+pub mod Deemed

@@ -5,12 +5,14 @@ use Rattle.std.specs.Option.{option_map_or}
 use Rattle.std.specs.Ordering.{int_eq}
 use Rattle.tables.specs.Tables as tables
 use Rattle.rows.specs.declared.figures.Volume.{Volume}
+use Rattle.rows.specs.declared.figures.DeemedEnergy.{DeemedEnergy}
 use Rattle.rows.specs.declared.kinds.AreaKind.{AreaKind}
 use Rattle.rows.specs.declared.area.Area.{Area}
 use Rattle.rows.specs.declared.party.Party.{Party}
 use Rattle.rows.specs.declared.resource.Resource.{Resource}
 use Rattle.records.specs.declared.hour.Hour.{Hour}
 use Rattle.rows.specs.Kinds.{is_ciso, is_tie}
+use Rattle.rows.specs.Posted.{with_table}
 use Rattle.records.specs.Ranges.{most_areas, most_parties, most_resources}
 
 -- the rows' ids
@@ -30,6 +32,10 @@ opened areas parties resources = record {
   parties = tables.opened (min parties most_parties);
   resources = tables.opened (min resources most_resources);
 }
+
+-- with the deemed energies of a table, one row for each resource, in the order entered
+abbrev pub with_deemed : List (List DeemedEnergy) → Hour → Hour
+with_deemed table h = record h { resources = record h.resources { rows = with_table table h.resources.rows } }
 
 -- the area, the party and the resource with an id, where one is entered
 abbrev pub area_of : Hour → ℕ → Option Area

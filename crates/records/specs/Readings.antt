@@ -8,6 +8,7 @@ use Rattle.tables.specs.declared.refusal.Refusal.{Refusal}
 use Rattle.tables.specs.Refusals.{Fit, ◌unless◌, first_fit}
 use Rattle.tables.specs.Ranges.{is_id, as_id}
 use Rattle.deemed.specs.declared.tag.Tag.{Tag}
+use Rattle.rows.specs.declared.figures.DeemedEnergy.{DeemedEnergy}
 use Rattle.rows.specs.declared.figures.Volume.{Volume}
 use Rattle.rows.specs.declared.figures.GivenAmount.{GivenAmount}
 use Rattle.rows.specs.declared.area.Election.{Election}
@@ -16,7 +17,7 @@ use Rattle.rows.specs.declared.area.Transfer.{Transfer}
 use Rattle.rows.specs.declared.resource.EnergyRecord.{EnergyRecord}
 use Rattle.rows.specs.Slots.{is_interval, is_quarter, slot_place}
 use Rattle.rows.specs.Codes.{given_code}
-use Rattle.rows.specs.Posted.{energy_at, tag_at, test_at, transfer_at, demand_at, given_at}
+use Rattle.rows.specs.Posted.{energy_at, tag_at, deemed_at, test_at, transfer_at, demand_at, given_at}
 use Rattle.records.specs.declared.hour.Hour.{Hour}
 use Rattle.records.specs.Hours.{area_of, party_of, resource_of}
 use Rattle.records.specs.Calls.{refusal}
@@ -47,6 +48,12 @@ tag_read id interval h =
     read
     (OutsideSpan unless is_id id ∷ OutsideSpan unless is_interval interval ∷ [])
     (option_map (tag_at (slot_place interval)) (resource_of h (as_id id)))
+
+abbrev pub deemed_read : ℤ → ℤ → Hour → Result DeemedEnergy Reason
+deemed_read id interval h =
+    read
+    (OutsideSpan unless is_id id ∷ OutsideSpan unless is_interval interval ∷ [])
+    (option_map (deemed_at (slot_place interval)) (resource_of h (as_id id)))
 
 abbrev pub test_read : ℤ → ℤ → Hour → Result SufficiencyTest Reason
 test_read id quarter h =

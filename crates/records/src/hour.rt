@@ -1,10 +1,15 @@
 // The tables of an hour, and every call on them.
-ghost use Rattle.std.specs.Prelude.{◌≡◌, IfOk};
-ghost use Rattle.records.specs.Hours.{opened};
+ghost use Rattle.std.specs.Prelude.{◌≡◌, ◌≤◌, length, IfOk};
+ghost use Rattle.std.specs.List.{All};
+ghost use Rattle.deemed.specs.Ranges.{hour_length};
+ghost use Rattle.rows.specs.Posted.{with_table};
+ghost use Rattle.records.specs.Hours.{opened, with_deemed};
+ghost use Rattle.records.specs.Ranges.{most_resources};
 ghost use Rattle.records.specs.Calls.{judgment_of, left_by};
 
 use super::call::Call;
-use rows::{Area, Party, Resource};
+use deemed::INTERVALS;
+use rows::{Area, DeemedEnergy, Party, Resource};
 use std::alloc::{AllocError, Global};
 use tables::{Reason, Table};
 
@@ -20,6 +25,18 @@ pub(crate) struct Hour {
     pub(crate) areas: Table<Area>,
     pub(crate) parties: Table<Party>,
     pub(crate) resources: Table<Resource>,
+}
+
+// Puts the deemed energies of a table at resources, in the same order.
+fn put_deemed(resources: &mut [Resource], table: &[[DeemedEnergy; INTERVALS]])
+    requires { length resources.old ≤ length table.now }
+    ensures deemed { resources.new ≡ with_table table.now resources.old }
+    ensures whole { All (λ r. length r.deemed ≡ hour_length) resources.new }
+{
+    // by place: through a `zip` with `iter_mut` nothing is known of what was written
+    for (i, energies) in table.iter().enumerate().take(resources.len()) {
+        resources[i].set_deemed(*energies);
+    }
 }
 
 impl Hour {
@@ -74,5 +91,15 @@ impl Hour {
                 cents,
             } => self.post_given(id, interval, code, cents),
         }
+    }
+
+    // Keeps deemed energies: one row for each resource, in the order entered.
+    #[tactic(auto, using(tables::proofs::Changed::rewritten_whole))]
+    pub(crate) fn keep_deemed(&mut self, table: &[[DeemedEnergy; INTERVALS]; MOST_RESOURCES])
+        requires { length self.old.resources.rows ≤ most_resources }
+        ensures records { self.new ≡ with_deemed table.now self.old }
+        ensures whole { All (λ r. length r.deemed ≡ hour_length) self.new.resources.rows }
+    {
+        put_deemed(self.resources.rows_mut(), table);
     }
 }

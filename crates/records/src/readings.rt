@@ -1,14 +1,14 @@
 // The calls that read what stands in the records. They change nothing.
 ghost use Rattle.std.specs.Prelude.{◌≡◌, pos};
 ghost use Rattle.records.specs.Calls.{at};
-ghost use Rattle.records.specs.Readings.{told, energy_read, tag_read, election_read, test_read, transfer_read, demand_read, given_read};
+ghost use Rattle.records.specs.Readings.{told, energy_read, tag_read, deemed_read, election_read, test_read, transfer_read, demand_read, given_read};
 
 use super::hour::Hour;
 use super::records::{Records, refused};
 use deemed::Tag;
 use rows::{
-    Election, EnergyRecord, GivenAmount, GivenCode, Interval, Quarter, SufficiencyTest, Transfer,
-    Volume,
+    DeemedEnergy, Election, EnergyRecord, GivenAmount, GivenCode, Interval, Quarter,
+    SufficiencyTest, Transfer, Volume,
 };
 use tables::{Place, Reason, Refusal, id_of};
 
@@ -27,6 +27,14 @@ impl Hour {
         let id = id_of(id)?;
         let interval = Interval::numbered(interval)?;
         Ok(self.resources.row(id)?.tags[interval.place])
+    }
+
+    fn deemed(&self, id: i64, interval: i64) -> Result<DeemedEnergy, Reason>
+        ensures { result ≡ deemed_read id interval self.now }
+    {
+        let id = id_of(id)?;
+        let interval = Interval::numbered(interval)?;
+        Ok(self.resources.row(id)?.deemed[interval.place])
     }
 
     fn test(&self, id: i64, quarter: i64) -> Result<SufficiencyTest, Reason>
@@ -90,6 +98,13 @@ impl Records {
         ensures { result ≡ told (at interval id) (tag_read id interval self.now) }
     {
         told(self.hour.tag(id, interval), interval, id)
+    }
+
+    // The deemed energy of a resource in an interval.
+    pub fn deemed(&self, id: i64, interval: i64) -> Result<DeemedEnergy, Refusal>
+        ensures { result ≡ told (at interval id) (deemed_read id interval self.now) }
+    {
+        told(self.hour.deemed(id, interval), interval, id)
     }
 
     // The sufficiency test of an area in a quarter.

@@ -1,13 +1,14 @@
 // The records of an hour. Of every `Records` what `Sound` says is true.
 ghost use Rattle.std.specs.Prelude.{◌≡◌, IfOk};
-ghost use Rattle.records.specs.Hours.{opened};
+ghost use Rattle.records.specs.Hours.{opened, with_deemed};
 ghost use Rattle.records.specs.Calls.{answer_to, left_by, refusal};
 ghost use Rattle.records.specs.Sound.{Sound, Step, Grows, StepsKeepSound};
 ghost use Rattle.records.specs.Standing.{Stands};
 
 use super::call::Call;
-use super::hour::Hour;
-use rows::{Area, Party, Resource};
+use super::hour::{Hour, MOST_RESOURCES};
+use deemed::INTERVALS;
+use rows::{Area, DeemedEnergy, Party, Resource};
 use std::alloc::{AllocError, Global};
 use std::marker::Model;
 use tables::{Part, Place, Reason, Refusal};
@@ -69,6 +70,14 @@ impl Records {
             Ok(()) => Ok(()),
             Err(reason) => Err(refused(reason, call.place())),
         }
+    }
+
+    // Keeps deemed energies: one row for each resource, in the order entered.
+    pub fn keep_deemed(&mut self, table: &[[DeemedEnergy; INTERVALS]; MOST_RESOURCES])
+        ensures records { self.new ≡ with_deemed table.now self.old }
+        ensures sound { Sound self.new }
+    {
+        self.hour.keep_deemed(table);
     }
 
     // The areas, in the order entered.

@@ -1,5 +1,6 @@
 -- What stands for a row in an interval or a quarter, by its place from 0, and a row with another record there. Assumes nothing.
-use Rattle.std.specs.Prelude.{ℕ, List, pos, slice_index_or, slice_set}
+use Rattle.std.specs.Prelude.{ℕ, List, map, pos, slice_index_or, slice_set}
+use Rattle.std.specs.List.{zip}
 use Rattle.deemed.specs.declared.tag.Tag.{Tag}
 use Rattle.deemed.specs.Tags.{no_tag}
 use Rattle.rows.specs.declared.figures.Volume.{Volume}
@@ -70,3 +71,10 @@ with_energy place energy r = record r { energy = slice_set r.energy place energy
 
 unfoldable pub with_tag : ℕ → Tag → Resource → Resource
 with_tag place tag r = record r { tags = slice_set r.tags place tag }
+
+-- a resource with other deemed energies, and resources with those of a table, in the same order
+abbrev pub with_energies : List DeemedEnergy → Resource → Resource
+with_energies energies r = record r { deemed = energies }
+
+abbrev pub with_table : List (List DeemedEnergy) → List Resource → List Resource
+with_table table resources = map (λ x. with_energies x.1 x.0) (zip resources table)

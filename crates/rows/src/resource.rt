@@ -1,7 +1,8 @@
 // A resource, with the energy, the tag and the deemed energy of each of its intervals.
-ghost use Rattle.std.specs.Prelude.{◌≡◌};
+ghost use Rattle.std.specs.Prelude.{◌≡◌, length};
+ghost use Rattle.deemed.specs.Ranges.{hour_length};
 ghost use Rattle.rows.specs.Rows.{no_energy, new_resource};
-ghost use Rattle.rows.specs.Posted.{with_energy, with_tag};
+ghost use Rattle.rows.specs.Posted.{with_energy, with_tag, with_energies};
 
 use super::dispatch::DispatchType;
 use super::figures::{DeemedEnergy, Energy, Price};
@@ -95,6 +96,13 @@ impl Resource {
         ensures { self.new ≡ with_tag interval.place tag self.old }
     {
         self.tags[interval.place] = tag;
+    }
+
+    pub fn set_deemed(&mut self, energies: [DeemedEnergy; INTERVALS])
+        ensures deemed { self.new ≡ with_energies energies self.old }
+        ensures whole { length self.new.deemed ≡ hour_length }
+    {
+        self.deemed = energies;
     }
 }
 

@@ -1,16 +1,16 @@
--- What changing a row by its id comes to. Assumes nothing.
-use Rattle.std.proofs.Common.{◌≡◌, refl, sym, ap, ◌∙◌, ℕ, ◌==◌, map, Option, Some, None, slice_set, slice_index_or, arith, Bool, true, false, cond, [], ◌∷◌, subst, List, length, nat_lt, find}
+-- What changing a row by its id, or all rows, comes to. Assumes nothing.
+use Rattle.std.proofs.Common.{◌≡◌, refl, sym, ap, ◌∙◌, ℕ, ◌==◌, map, append-nil, Option, Some, None, slice_set, slice_index_or, arith, Bool, true, false, cond, [], ◌∷◌, subst, List, length, nat_lt, find}
 use Rattle.std.specs.List.{All}
 use Rattle.std.specs.Option.{option_map_or}
 use Rattle.std.proofs.lemmas.List.Elements.{All-head, All-set, All-tail}
 use Rattle.std.proofs.lemmas.List.Folds.{find-set}
-use Rattle.std.proofs.lemmas.List.{set-get_or}
+use Rattle.std.proofs.lemmas.List.{set-get_or, drop_all, take_all}
 use Rattle.std.proofs.Math.Seq.{map-set_same}
 use Rattle.std.specs.List.{position_or_len}
 use Rattle.std.proofs.lemmas.List.Quantifiers.{position-Some}
 use Rattle.std.proofs.lemmas.Option.{cond_some}
 use Rattle.tables.specs.View.{Table}
-use Rattle.tables.specs.Tables.{found, place, with_replaced, changed}
+use Rattle.tables.specs.Tables.{found, place, with_replaced, changed, rewritten}
 use Rattle.tables.proofs.Places.{find_there, find_nowhere}
 
 module _ {T : Type 0} (p : T → Bool) where
@@ -122,3 +122,9 @@ module _ {T : Type 0} (key : T → ℕ) (id : ℕ) (t : Table T) where
     -- what is found afterwards under the id is the row, changed
     pub found_changed : ((x : T) → key (change x) ≡ key x) → (x : T) → found key id t.rows ≡ Some x → found key id (changed key id change t).rows ≡ Some (change x)
     found_changed same x e = ap (λ u. found key id u.rows) (changed_found change x e) ∙ replaced_found x (change x) e (same x)
+
+-- as many other rows are all the rows
+pub rewritten_whole : {T : Type 0} (t : Table T) (rows : List T) → length rows ≡ length t.rows → rewritten t rows ≡ record t { rows = rows }
+unfolding rewritten
+rewritten_whole t rows long =
+    rw (drop_all (length rows) t.rows (omega arith), append-nil, take_all (length t.rows) rows (omega arith)) refl

@@ -65,6 +65,10 @@ infixl 70 ◌unless◌
 abbrev pub ◌unless◌ : {R : Type 0} → R → Bool → Fit R
 r unless b = record { reason = r; fits = not b }
 
+-- a reason told as another
+abbrev pub refused_as : {R S : Type 0} → (R → S) → Fit R → Fit S
+refused_as f fit = record { reason = f fit.reason; fits = fit.fits }
+
 -- the first reason of a list that fits
 abbrev pub first_fit : {R : Type 0} → List (Fit R) → Option R
 first_fit [] = None

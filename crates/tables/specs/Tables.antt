@@ -1,5 +1,5 @@
 -- Rows by their ids, and what is done with a table. Assumes nothing.
-use Rattle.std.specs.Prelude.{◌≡◌, ℕ, ◌==◌, nat_lt, Bool, true, false, List, [], ◌∷◌, ◌++◌, length, Option, is_some, find, position, slice_set, Result, Ok, Err}
+use Rattle.std.specs.Prelude.{◌≡◌, ℕ, ◌+◌, ◌==◌, nat_lt, nat_le, Bool, true, false, List, [], ◌∷◌, ◌++◌, length, take, drop, Option, is_some, find, position, slice_set, Result, Ok, Err}
 use Rattle.std.specs.Option.{option_map_or}
 use Rattle.tables.specs.View.{Table}
 use Rattle.tables.specs.declared.refusal.Reason.{Reason}
@@ -29,6 +29,18 @@ module _ {T : Type 0} where
   abbrev pub with_row : Table T → T → Table T
   with_row t x = record t { rows = t.rows ++ x ∷ [] }
 
+  -- whether there is room for more rows
+  abbrev pub has_room_for : List T → Table T → Bool
+  has_room_for rows t = nat_le (length t.rows + length rows) t.most
+
+  -- more rows
+  abbrev pub with_rows : Table T → List T → Table T
+  with_rows t rows = record t { rows = t.rows ++ rows }
+
+  -- other rows from the first on, as many as there were
+  unfoldable pub rewritten : Table T → List T → Table T
+  rewritten t rows = record t { rows = take (length t.rows) (rows ++ drop (length rows) t.rows) }
+
   -- another row in the place of the first with an id
   unfoldable pub with_replaced : (T → ℕ) → ℕ → Table T → T → Table T
   with_replaced key id t x = record t { rows = option_map_or (λ i. slice_set t.rows i x) (place key id t.rows) t.rows }
@@ -41,3 +53,8 @@ module _ {T : Type 0} where
   abbrev pub TriedToAdd : T → Table T → Table T → Result (Unit {0}) Reason → Type 0
   TriedToAdd x before after (Ok _) = (has_room before ≡ true) × (after ≡ with_row before x)
   TriedToAdd x before after (Err r) = (has_room before ≡ false) × (r ≡ Full) × (after ≡ before)
+
+  -- rows are added where there is room for all of them, and else the table is as it was
+  abbrev pub TriedToAddAll : List T → Table T → Table T → Result (Unit {0}) Reason → Type 0
+  TriedToAddAll rows before after (Ok _) = (has_room_for rows before ≡ true) × (after ≡ with_rows before rows)
+  TriedToAddAll rows before after (Err r) = (has_room_for rows before ≡ false) × (r ≡ Full) × (after ≡ before)

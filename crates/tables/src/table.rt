@@ -1,7 +1,7 @@
 // A table of rows that are known by an id, in the order entered. All memory is reserved at opening.
 ghost use Rattle.std.specs.Prelude.{◌≡◌, ℕ, None, Some, IfOk, MatchResult, not};
 ghost use Rattle.tables.specs.Refusals.{Tested};
-ghost use Rattle.tables.specs.Tables.{found, place, entered, opened, TriedToAdd};
+ghost use Rattle.tables.specs.Tables.{found, place, entered, opened, TriedToAdd, TriedToAddAll};
 ghost use Rattle.tables.specs.declared.refusal.Reason.TheVariants.{NotEntered, AlreadyEntered};
 
 use super::refusal::Reason;
@@ -63,6 +63,35 @@ impl<T> Table<T> {
         }
         self.rows.push_reserved(row);
         Ok(())
+    }
+
+    // Adds rows after the others, where there is room for all of them.
+    pub fn add_all(&mut self, rows: &[T]) -> Result<(), Reason>
+    where
+        T: Copy,
+        ensures { TriedToAddAll rows.now self.old self.new result }
+    {
+        let count = self.rows.len();
+        if count > self.most || rows.len() > self.most - count {
+            return Err(Reason::Full);
+        }
+        for row in rows {
+            self.rows.push_reserved(*row);
+        }
+        Ok(())
+    }
+}
+
+impl<T> Table<T> {
+    ghost use Rattle.std.specs.Borrow.{sem};
+    ghost use Rattle.tables.specs.Lends.{lends_rows};
+
+    // All rows, to be written.
+    pub fn rows_mut(&mut self) -> &mut [T]
+        ensures* writes_back { sem 𝓛 (lends_rows T.row self.entry result) }
+        ensures value { result.now ≡ self.old.rows }
+    {
+        self.rows.as_mut_slice()
     }
 }
 
