@@ -73,7 +73,7 @@ without_first : (P : Party × Cents → Type 0) (area : ℕ) (p : Party) (ps : L
 without_first P area p ps c cs each = ⊎_elim (λ e. All-tail P (p, c) (entries_in area ps cs) (rw e at each)) (λ e. rw e at each) (cases_Bool (p.area == area))
 
 -- what holds of all areas holds of the one that is found
-at_found : (Q : Area → Type 0) (id : ℕ) (areas : List Area) → All Q areas → is_some (found area_id id areas) ≡ true → (a : Area) × (id ≡ a.id) × Q a
+pub at_found : (Q : Area → Type 0) (id : ℕ) (areas : List Area) → All Q areas → is_some (found area_id id areas) ≡ true → (a : Area) × (id ≡ a.id) × Q a
 at_found Q id [] each home = absurd (false≢true home)
 at_found Q id (a ∷ areas) each home =
     ⊎_elim (λ e. (a, sym (eqb-true a.id id e), All-head Q a areas each))

@@ -1,7 +1,7 @@
 -- An interval, from its columns. Assumes nothing.
 use Rattle.std.proofs.Common.{◌≡◌, ℕ, List, map, length, drop, Some, None, ℤ, neg_ℤ, ◌+ℤ◌, refl, ap, subst, ◌∙◌}
 use Rattle.std.specs.List.{All}
-use Rattle.std.proofs.lemmas.List.{drop-replicate}
+use Rattle.std.proofs.lemmas.List.{drop-replicate, length-replicate}
 use Rattle.sharing.specs.Laws.{total}
 use Rattle.tables.specs.Refusals.{Fit, first_fit}
 use Rattle.tables.proofs.Firsts.{first_fit-append, first_fit-front}
@@ -55,10 +55,10 @@ module _ (areas : List Area) (parties : List Party) (resources : List Resource) 
     surcharges_met = first_fit-append (faults (offset_pool resources parties place)) later (subst (λ z. first_fit (faults z) ≡ None) pool shared)
 
   -- all is worked out
-  pub charged : {shares : ℤ → List ℕ → List ℤ} → All (λ a. cents_in a.id parties x.cc_6477 ≡ offset_shares_of shares x.offset.0 parties place a) areas → drop (length parties) x.cc_6477 ≡ drop (length parties) no_column
-      → All (λ a. cents_in a.id parties x.cc_6476 ≡ shares (area_pool place a) (weights place a parties)) areas → drop (length parties) x.cc_6476 ≡ drop (length parties) no_column
+  pub charged : {shares : ℤ → List ℕ → List ℤ} → All (λ a. cents_in a.id parties x.cc_6477 ≡ offset_shares_of shares x.offset.0 parties place a) areas → drop (length parties) x.cc_6477 ≡ drop (length parties) no_column → length x.cc_6477 ≡ length no_column
+      → All (λ a. cents_in a.id parties x.cc_6476 ≡ shares (area_pool place a) (weights place a parties)) areas → drop (length parties) x.cc_6476 ≡ drop (length parties) no_column → length x.cc_6476 ≡ length no_column
       → x.balance.0 ≡ balance areas place → IntervalCharged shares areas parties resources place x
-  charged {shares} cc_6477 cc_6477_rest cc_6476 cc_6476_rest balance_is =
+  charged {shares} cc_6477 cc_6477_rest cc_6477_long cc_6476 cc_6476_rest cc_6476_long balance_is =
       let rest_is : drop (length parties) no_column ≡ rest parties = drop-replicate (length parties) most_parties no_cents in
       record {
         cc_6470 = cc_6470;
@@ -66,8 +66,10 @@ module _ (areas : List Area) (parties : List Party) (resources : List Resource) 
         cc_6475 = cc_6475;
         cc_6476 = cc_6476;
         cc_6476_rest = cc_6476_rest ∙ rest_is;
+        cc_6476_long = cc_6476_long ∙ length-replicate most_parties no_cents;
         offset_is = pool;
         cc_6477 = subst (λ z. All (λ a. cents_in a.id parties x.cc_6477 ≡ offset_shares_of shares z parties place a) areas) pool cc_6477;
         cc_6477_rest = cc_6477_rest ∙ rest_is;
+        cc_6477_long = cc_6477_long ∙ length-replicate most_parties no_cents;
         balance_is = balance_is;
       }

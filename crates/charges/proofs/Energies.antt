@@ -1,7 +1,7 @@
 -- The new deemed energies of a resource. Assumes nothing.
 use Rattle.std.proofs.Common.{◌≡◌, ◌<◌, ◌≤◌, ℕ, false, List, [], ◌∷◌, ◌++◌, map, length, get_or, ℤ, pos, sum, unsigned_abs, refl, ap, ◌∙◌, arith}
 use Rattle.std.specs.List.{All, zip}
-use Rattle.std.proofs.lemmas.List.{length-map}
+use Rattle.std.proofs.lemmas.List.{length-map, length-replicate}
 use Rattle.std.proofs.lemmas.List.Elements.{All-head, All-tail, All-map, All-replicate, All-weaker, All-from_get_or}
 use Rattle.std.proofs.lemmas.Slice.Zip.{length-zip, get_or-zip}
 use Rattle.sharing.specs.Laws.{Apportioned, Lawful, total}
@@ -9,7 +9,7 @@ use Rattle.sharing.proofs.Totals.{total_within}
 use Rattle.sharing.proofs.Parts.{shares_within}
 use Rattle.deemed.specs.declared.tag.Tag.{Tag}
 use Rattle.deemed.specs.Ranges.{hour_length, most_kw}
-use Rattle.deemed.specs.Tags.{pool, weights}
+use Rattle.deemed.specs.Tags.{pool, weight, weights}
 use Rattle.deemed.specs.Deemed.{NearPart}
 use Rattle.rows.specs.declared.figures.DeemedEnergy.{DeemedEnergy}
 use Rattle.rows.specs.declared.kinds.ResourceKind.{ResourceKind}
@@ -17,8 +17,9 @@ use Rattle.rows.specs.declared.kinds.ResourceKind.TheVariants.{Plain, StaticTie,
 use Rattle.rows.specs.declared.resource.Resource.{Resource}
 use Rattle.rows.specs.Ranges.{most_deemed}
 use Rattle.rows.specs.Figures.{as_deemed}
+use Rattle.rows.specs.Posted.{with_table}
 use Rattle.rows.specs.Rows.{WholeResource}
-use Rattle.charges.specs.Energies.{energies_by_kind, new_energies, with_new_energies, with_table, counts, EnergyLaws}
+use Rattle.charges.specs.Energies.{energies_by_kind, new_energies, with_new_energies, counts, EnergyLaws}
 use Rattle.charges.specs.Faults.{tie_fault}
 use Rattle.charges.proofs.Figures.{count_is}
 use Rattle.charges.proofs.Shareable.{shareable}
@@ -81,3 +82,13 @@ module _ {shares : ℤ → List ℕ → List ℤ} (lawful : Lawful shares) where
         in_full = λ is. ap total (are DynamicTie is) ∙ (lawful p ws).in_full (shareable p ws (rw is at fits));
         near = λ is. rw (are DynamicTie is) (near_each p ws (shares p ws) (lawful p ws));
       }
+
+  -- there is one for each interval
+  long_by_kind : (kind : ResourceKind) (r : Resource) → length r.tags ≡ hour_length → length (energies_by_kind shares kind r) ≡ hour_length
+  long_by_kind Plain r long = length-replicate hour_length (pos 0)
+  long_by_kind StaticTie r long = length-map r.tags (λ t. t.kw.0) ∙ long
+  long_by_kind DynamicTie r long = (lawful (pool r.tags) (weights r.tags)).one_each ∙ length-map r.tags weight ∙ long
+
+  pub energies_long : (r : Resource) → WholeResource r → length (new_energies shares r) ≡ hour_length
+  unfolding new_energies
+  energies_long r whole = length-map (energies_by_kind shares r.kind r) as_deemed ∙ long_by_kind r.kind r whole.1

@@ -4,7 +4,7 @@ use Rattle.std.specs.List.{All, flat_map, zip}
 use Rattle.std.proofs.lemmas.Bool.{cases_lt}
 use Rattle.std.proofs.lemmas.Grind.{flat_map-append}
 use Rattle.std.proofs.lemmas.List.{drop-replicate}
-use Rattle.std.proofs.lemmas.List.Elements.{All-nil, All-cons, All-head, All-tail}
+use Rattle.std.proofs.lemmas.List.Elements.{All-nil, All-cons, All-head, All-tail, All-map}
 use Rattle.sharing.specs.Laws.{Lawful}
 use Rattle.tables.specs.Refusals.{Fit, first_fit}
 use Rattle.tables.proofs.Fits.{none_fits, none_of_each}
@@ -15,6 +15,7 @@ use Rattle.rows.specs.declared.area.Area.{Area}
 use Rattle.rows.specs.declared.party.Party.{Party}
 use Rattle.rows.specs.declared.resource.Resource.{Resource}
 use Rattle.rows.specs.Figures.{as_deemed}
+use Rattle.rows.specs.Posted.{with_table}
 use Rattle.records.specs.declared.hour.Hour.{Hour}
 use Rattle.records.specs.Ranges.{most_resources}
 use Rattle.records.specs.Sound.{Sound}
@@ -22,9 +23,9 @@ use Rattle.charges.specs.declared.amounts.IntervalAmounts.{IntervalAmounts}
 use Rattle.charges.specs.declared.amounts.HourAmounts.{HourAmounts}
 use Rattle.charges.specs.declared.fault.ChargeFault.{ChargeFault}
 use Rattle.charges.specs.Amounts.{no_amounts}
-use Rattle.charges.specs.Energies.{new_energies, with_table, EnergyLaws}
-use Rattle.charges.specs.Faults.{tie_fault, interval_faults, first_places}
-use Rattle.charges.specs.Charged.{IntervalCharged, IntervalWorkedOut, HourCharged, renewed, at_place}
+use Rattle.charges.specs.Energies.{new_energies, with_new_energies, EnergyLaws}
+use Rattle.charges.specs.Faults.{tie_fault, interval_faults, first_places, hour_faults}
+use Rattle.charges.specs.Charged.{IntervalCharged, IntervalWorkedOut, HourCharged, HourLaws, renewed, at_place}
 use Rattle.charges.proofs.Energies.{energy_laws, tables_with}
 use Rattle.charges.proofs.IntervalLaws.{interval_laws, same_owners}
 
@@ -65,27 +66,41 @@ at_front P f (x ∷ xs) more each =
 abbrev pub nothing : List (List DeemedEnergy)
 nothing = replicate most_resources (replicate hour_length (as_deemed (pos 0)))
 
-module _ {shares : ℤ → List ℕ → List ℤ} (lawful : Lawful shares) (h : Hour) (sound : Sound h) (a : HourAmounts) where
+module _ {shares : ℤ → List ℕ → List ℤ} (h : Hour) (a : HourAmounts) where
+  pub hour_charged : a.deemed ≡ map (new_energies shares) h.resources.rows ++ drop (length h.resources.rows) nothing
+      → ((place : ℕ) → place < hour_length → IntervalCharged shares h.areas.rows h.parties.rows (renewed shares h) place (at_place a place))
+      → HourCharged shares h a
+  hour_charged table charged = record {
+    energies = table ∙ ap (λ l. map (new_energies shares) h.resources.rows ++ l) (drop-replicate (length h.resources.rows) most_resources _);
+    intervals = charged;
+  }
+
+-- the laws of an hour of which no fault fits
+module _ {shares : ℤ → List ℕ → List ℤ} (lawful : Lawful shares) (h : Hour) (sound : Sound h) (unrefused : first_fit (hour_faults shares h.areas.rows h.parties.rows h.resources.rows) ≡ None) where
   abbrev resources : List Resource
   resources = h.resources.rows
 
   abbrev faults_at : ℕ → List (Fit ChargeFault)
   faults_at = interval_faults h.areas.rows h.parties.rows (renewed shares h)
 
-  pub hour_charged : first_fit (map tie_fault resources) ≡ None → a.deemed ≡ map (new_energies shares) resources ++ drop (length resources) nothing
-      → first_fit (so_far faults_at hour_length) ≡ None
-      → ((place : ℕ) → place < hour_length → IntervalCharged shares h.areas.rows h.parties.rows (renewed shares h) place (at_place a place))
-      → HourCharged shares h a
-  hour_charged no_tie table none charged =
-      let fits = none_of_each tie_fault resources (none_fits (map tie_fault resources) no_tie) in
-      record {
-        energies = table ∙ ap (λ l. map (new_energies shares) resources ++ l) (drop-replicate (length resources) most_resources _);
-        intervals = charged;
-        energy_laws =
-            rw table (at_front EnergyLaws (new_energies shares) resources (drop (length resources) nothing) (λ i d k. energy_laws lawful _ (sound.whole_resources i d k) (fits i d k)));
-        interval_laws = λ place in'.
-            interval_laws lawful h sound (renewed shares h) (same_owners shares resources) place in' (at_place a place) (none_at faults_at hour_length place in' none) (charged place in');
-      }
+  neither : (first_fit (map tie_fault resources) ≡ None) × (first_fit (so_far faults_at hour_length) ≡ None)
+  neither = first_fit-neither (map tie_fault resources) (so_far faults_at hour_length) unrefused
+
+  each_energy : (i : ℕ) (d : Resource) → i < length resources → EnergyLaws (get_or resources i d) (new_energies shares (get_or resources i d))
+  each_energy i d k = energy_laws lawful _ (sound.whole_resources i d k) (none_of_each tie_fault resources (none_fits (map tie_fault resources) neither.0) i d k)
+
+  pub hour_laws : (a : HourAmounts) → HourCharged shares h a → HourLaws h (renewed shares h) a
+  hour_laws a charged = record {
+    energies = rw charged.energies (at_front EnergyLaws (new_energies shares) resources _ each_energy);
+    intervals = λ place in'.
+        interval_laws lawful h sound (renewed shares h) (same_owners shares resources) place in' (at_place a place) (none_at faults_at hour_length place in' neither.1) (charged.intervals place in');
+  }
+
+  -- the resources with their new deemed energies
+  pub renewed_laws : All (λ r. EnergyLaws r r.deemed) (renewed shares h)
+  renewed_laws = All-map (λ r. EnergyLaws r r.deemed) (with_new_energies shares) resources (λ i d k.
+      let laws = each_energy i d k in
+      record { of_plain = laws.of_plain; of_static = laws.of_static; static_in_full = laws.static_in_full; in_full = laws.in_full; near = laws.near })
 
 -- An interval that is worked out with the rows of an hour and a table of new energies is one of the hour.
 module _ (shares : ℤ → List ℕ → List ℤ) (h : Hour) {areas : List Area} {parties : List Party} {rows resources : List Resource} {table : List (List DeemedEnergy)} (more : List (List DeemedEnergy))

@@ -10,6 +10,7 @@ pub mod Sizes
 pub mod Bounded
 pub mod Outside
 pub mod ByArea
+pub mod Determined
 pub mod SurchargeParts
 pub mod OffsetParts
 pub mod IntervalLaws

@@ -13,7 +13,7 @@ use Rattle.rows.specs.Kinds.{is_ciso}
 use Rattle.rows.specs.Figures.{as_deemed}
 use Rattle.formulas.specs.Surcharge.{area_pool}
 use Rattle.records.specs.declared.hour.Hour.{Hour}
-use Rattle.records.specs.Ranges.{most_resources}
+use Rattle.records.specs.Ranges.{most_parties, most_resources}
 use Rattle.charges.specs.declared.amounts.IntervalAmounts.{IntervalAmounts}
 use Rattle.charges.specs.declared.amounts.HourAmounts.{HourAmounts}
 use Rattle.charges.specs.declared.fault.ChargeFault.{ChargeFault}
@@ -39,9 +39,11 @@ pub record IntervalCharged (shares : ℤ → List ℕ → List ℤ) (areas : Lis
   -- the parties of each area share its pool
   pub cc_6476 : All (λ a. cents_in a.id parties x.cc_6476 ≡ shares (area_pool place a) (weights place a parties)) areas
   pub cc_6476_rest : drop (length parties) x.cc_6476 ≡ rest parties
+  pub cc_6476_long : length x.cc_6476 ≡ most_parties
   -- those of the CISO area share the offset
   pub cc_6477 : All (λ a. cents_in a.id parties x.cc_6477 ≡ offset_shares shares resources parties place a) areas
   pub cc_6477_rest : drop (length parties) x.cc_6477 ≡ rest parties
+  pub cc_6477_long : length x.cc_6477 ≡ most_parties
   pub offset_is : x.offset.0 ≡ offset_pool resources parties place
   pub balance_is : x.balance.0 ≡ balance areas place
 
@@ -85,10 +87,14 @@ at_place a place = slice_index_or a.intervals place no_amounts
 pub record HourCharged (shares : ℤ → List ℕ → List ℤ) (h : Hour) (a : HourAmounts) : Type 0 where
   pub energies : a.deemed ≡ map (new_energies shares) h.resources.rows ++ replicate (most_resources - length h.resources.rows) (replicate hour_length (as_deemed (pos 0)))
   pub intervals : (place : ℕ) → place < hour_length → IntervalCharged shares h.areas.rows h.parties.rows (renewed shares h) place (at_place a place)
-  -- the laws, with the new deemed energies
-  pub energy_laws : All (λ x. EnergyLaws x.0 x.1) (zip h.resources.rows a.deemed)
-  pub interval_laws : (place : ℕ) → place < hour_length → IntervalLaws h.areas.rows h.parties.rows (renewed shares h) place (at_place a place)
 
+-- what holds of them, whatever the rule, where the resources are as these
+pub record HourLaws (h : Hour) (resources : List Resource) (a : HourAmounts) : Type 0 where
+  pub energies : All (λ x. EnergyLaws x.0 x.1) (zip h.resources.rows a.deemed)
+  pub intervals : (place : ℕ) → place < hour_length → IntervalLaws h.areas.rows h.parties.rows resources place (at_place a place)
+
+-- worked out where no fault fits, and else refused by the first that does
 abbrev pub WorkedOut : (ℤ → List ℕ → List ℤ) → Hour → Result HourAmounts ChargeFault → Type 0
-WorkedOut shares h (Ok a) = (first_fit (hour_faults shares h.areas.rows h.parties.rows h.resources.rows) ≡ None) × HourCharged shares h a
+WorkedOut shares h (Ok a) =
+    (first_fit (hour_faults shares h.areas.rows h.parties.rows h.resources.rows) ≡ None) × HourCharged shares h a × HourLaws h (renewed shares h) a
 WorkedOut shares h (Err f) = first_fit (hour_faults shares h.areas.rows h.parties.rows h.resources.rows) ≡ Some f

@@ -10,6 +10,7 @@ use Rattle.rows.specs.declared.kinds.ResourceKind.TheVariants.{Plain, StaticTie,
 use Rattle.rows.specs.declared.kinds.ResourceKind.{ResourceKind}
 use Rattle.rows.specs.declared.resource.Resource.{Resource}
 use Rattle.rows.specs.Figures.{as_deemed}
+use Rattle.rows.specs.Posted.{with_energies}
 
 -- none of a plain resource; of a static tie what its tags schedule; of a dynamic tie the rule's shares of that
 abbrev pub energies_by_kind : (ℤ → List ℕ → List ℤ) → ResourceKind → Resource → List ℤ
@@ -21,16 +22,9 @@ energies_by_kind shares DynamicTie r = shares (pool r.tags) (weights r.tags)
 unfoldable pub new_energies : (ℤ → List ℕ → List ℤ) → Resource → List DeemedEnergy
 new_energies shares r = map as_deemed (energies_by_kind shares r.kind r)
 
--- a resource with them, and with others
-abbrev pub with_energies : List DeemedEnergy → Resource → Resource
-with_energies energies r = record r { deemed = energies }
-
+-- a resource with them
 abbrev pub with_new_energies : (ℤ → List ℕ → List ℤ) → Resource → Resource
 with_new_energies shares r = with_energies (new_energies shares r) r
-
--- resources with the energies of a table, in the same order
-abbrev pub with_table : List (List DeemedEnergy) → List Resource → List Resource
-with_table table resources = map (λ x. with_energies x.1 x.0) (zip resources table)
 
 -- energies as numbers
 abbrev pub counts : List DeemedEnergy → List ℤ

@@ -29,7 +29,8 @@ pub struct HourAmounts {
 }
 
 impl IntervalAmounts {
-    pub(crate) fn none() -> IntervalAmounts
+    // Nothing is charged.
+    pub fn none() -> IntervalAmounts
         ensures { result ≡ no_amounts }
     {
         IntervalAmounts {

@@ -3,7 +3,7 @@ ghost use Rattle.std.specs.Prelude.{◌≡◌, ◌≤◌, length, unsigned_abs};
 ghost use Rattle.std.specs.List.{All};
 ghost use Rattle.records.specs.Ranges.{most_parties, most_resources};
 ghost use Rattle.charges.specs.Ranges.{most_imbalance};
-ghost use Rattle.charges.specs.Energies.{with_table};
+ghost use Rattle.rows.specs.Posted.{with_table};
 ghost use Rattle.charges.specs.Amounts.{amount_6470, column};
 
 use deemed::INTERVALS;

@@ -1,7 +1,7 @@
 // The amounts of an interval.
 ghost use Rattle.std.specs.Prelude.{◌≤◌, length};
 ghost use Rattle.records.specs.Ranges.{most_areas, most_parties, most_resources};
-ghost use Rattle.charges.specs.Energies.{with_table};
+ghost use Rattle.rows.specs.Posted.{with_table};
 ghost use Rattle.charges.specs.Sharing.{Distinct};
 ghost use Rattle.charges.specs.Charged.{IntervalWorkedOut};
 

@@ -3,7 +3,7 @@ use Rattle.std.proofs.lemmas.List.Elements.{All-set}
 use Rattle.rows.specs.declared.figures.Cents.{Cents}
 use Rattle.rows.specs.declared.party.Party.{Party}
 use Rattle.charges.specs.Ranges.{most_imbalance}
-use Rattle.charges.specs.Energies.{with_table}
+use Rattle.rows.specs.Posted.{with_table}
 use Rattle.charges.specs.Amounts.{amount_6470, no_column}
 use Rattle.charges.proofs.Filling.{filled_more, filled_all}
 use Rattle.charges.proofs.imbalance.imbalance_column.Goals as goal

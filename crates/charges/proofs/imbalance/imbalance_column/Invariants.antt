@@ -1,7 +1,7 @@
 use Rattle.std.proofs.Common.{◌≡◌, ◌≤◌, unsigned_abs}
 use Rattle.std.specs.List.{All}
 use Rattle.charges.specs.Ranges.{most_imbalance}
-use Rattle.charges.specs.Energies.{with_table}
+use Rattle.rows.specs.Posted.{with_table}
 use Rattle.charges.specs.Amounts.{amount_6470, no_column}
 use Rattle.charges.proofs.Filling.{filled}
 use Rattle.charges.proofs.imbalance.imbalance_column.Given as goal

@@ -9,7 +9,7 @@ use Rattle.rows.specs.declared.figures.DeemedEnergy.{DeemedEnergy}
 use Rattle.rows.specs.declared.resource.Resource.{Resource}
 use Rattle.rows.specs.Figures.{as_deemed}
 use Rattle.formulas.specs.Imbalance.{imbalance_charge}
-use Rattle.charges.specs.Energies.{with_energies, with_table}
+use Rattle.rows.specs.Posted.{with_energies, with_table}
 use Rattle.charges.specs.Amounts.{resource_charge, amount_6470}
 use Rattle.charges.proofs.Adding.{total_more_of}
 use Rattle.charges.proofs.imbalance.party_imbalance.Goals as goal

@@ -3,7 +3,7 @@ use Rattle.sharing.specs.Laws.{total}
 use Rattle.rows.specs.declared.given.GivenCode.TheVariants.{PassThrough}
 use Rattle.rows.specs.Ranges.{most_given}
 use Rattle.formulas.specs.Ranges.{most_charge}
-use Rattle.charges.specs.Energies.{with_table}
+use Rattle.rows.specs.Posted.{with_table}
 use Rattle.charges.specs.Amounts.{resource_charge, owned_by, given_cents}
 use Rattle.charges.proofs.imbalance.party_imbalance.Given as goal
 

@@ -2,7 +2,7 @@ use Rattle.std.proofs.Common.{ℕ, List, length, drop, ap, ◌∙◌}
 use Rattle.std.proofs.lemmas.Result.{err_from_is_err_and}
 use Rattle.rows.specs.declared.resource.Resource.{Resource}
 use Rattle.charges.specs.declared.amounts.IntervalAmounts.{IntervalAmounts}
-use Rattle.charges.specs.Energies.{with_table}
+use Rattle.rows.specs.Posted.{with_table}
 use Rattle.charges.specs.Amounts.{no_amounts}
 use Rattle.charges.proofs.Charging.{offset_refused, surcharges_met, charged}
 use Rattle.charges.proofs.interval.charge_interval.Goals as goal
@@ -43,5 +43,6 @@ returns g c =
       surcharges_met c.args.areas.now c.args.parties.now resources c.args.interval.place x c.imbalance_column-amounts.ensures.value c.given_column-amounts.ensures.value c.given_column-amounts-2.ensures.value c.offset_pool-amounts.ensures.value
           offset.0 ∙ surcharges.0,
       charged c.args.areas.now c.args.parties.now resources c.args.interval.place x c.imbalance_column-amounts.ensures.value c.given_column-amounts.ensures.value c.given_column-amounts-2.ensures.value c.offset_pool-amounts.ensures.value
-          offset.1 (offset.2 ∙ ap (λ a. drop n a.cc_6477) c.none-amounts.ensures) surcharges.1 (surcharges.2 ∙ ap (λ a. drop n a.cc_6476) c.none-amounts.ensures) c.balance-amounts.ensures.value,
+          offset.1 (offset.2 ∙ ap (λ a. drop n a.cc_6477) c.none-amounts.ensures) (offset.3 ∙ ap (λ a. length a.cc_6477) c.none-amounts.ensures)
+          surcharges.1 (surcharges.2 ∙ ap (λ a. drop n a.cc_6476) c.none-amounts.ensures) (surcharges.3 ∙ ap (λ a. length a.cc_6476) c.none-amounts.ensures) c.balance-amounts.ensures.value,
     )

@@ -14,8 +14,8 @@ use Rattle.charges.specs.declared.amounts.IntervalAmounts.{IntervalAmounts}
 use Rattle.charges.specs.declared.amounts.HourAmounts.{HourAmounts}
 use Rattle.charges.specs.Energies.{new_energies}
 use Rattle.charges.specs.Faults.{tie_fault, interval_faults}
-use Rattle.charges.specs.Charged.{IntervalCharged, renewed}
-use Rattle.charges.proofs.Hours.{so_far, none_at_next, first_at, hour_charged, in_hour, placed}
+use Rattle.charges.specs.Charged.{IntervalCharged, HourCharged, renewed}
+use Rattle.charges.proofs.Hours.{so_far, none_at_next, first_at, hour_charged, hour_laws, in_hour, placed}
 use Rattle.charges.proofs.work.work_out.Goals as goal
 
 pub returns-in_err-renew_all : goal.returns-in_err-renew_all
@@ -67,7 +67,7 @@ returns g c =
     let zeros : DeemedEnergy → List (List DeemedEnergy) = λ e. replicate most_resources (replicate hour_length e) in
     let filled : List Resource → DeemedEnergy → List (List DeemedEnergy) = λ rows e. map (new_energies shares) rows ++ drop (length rows) (zeros e) in
     let table : a.deemed ≡ filled h.resources.rows (as_deemed (pos 0)) =
-    c.in_ok-renew_all.ensures.1 ∙ ap (λ rows. filled rows c.zero.result) c.resources.ensures.rows ∙ ap (filled h.resources.rows) c.zero.ensures in (
-      first_fit-append (map tie_fault h.resources.rows) (so_far faults hour_length) ties ∙ none,
-      hour_charged (g.met.R.SharingRule.lawful c.args.rule.now) h c.resources.ensures.sound a ties table none (λ place low. c.loop-place.invariant.2 place (omega arith)),
-    )
+    c.in_ok-renew_all.ensures.1 ∙ ap (λ rows. filled rows c.zero.result) c.resources.ensures.rows ∙ ap (filled h.resources.rows) c.zero.ensures in
+    let unrefused = first_fit-append (map tie_fault h.resources.rows) (so_far faults hour_length) ties ∙ none in
+    let charged : HourCharged shares h a = hour_charged h a table (λ place low. c.loop-place.invariant.2 place (omega arith)) in
+    (unrefused, charged, hour_laws (g.met.R.SharingRule.lawful c.args.rule.now) h c.resources.ensures.sound unrefused a charged)
