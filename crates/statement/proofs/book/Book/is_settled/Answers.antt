@@ -1,0 +1,5 @@
+use Rattle.statement.proofs.Seen.{promises_seen}
+use Rattle.statement.proofs.book.Book.is_settled.Goals as goal
+
+pub returns-clause-promises : goal.returns-clause-promises
+returns-clause-promises c = promises_seen c.self.invariant c.self.view_is

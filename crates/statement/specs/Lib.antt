@@ -1,0 +1,9 @@
+pub mod Ranges
+pub mod Lines
+pub mod Statements
+pub mod Histories
+pub mod Promises
+pub mod Small
+pub mod Tallies
+pub mod Working
+pub mod Readings
