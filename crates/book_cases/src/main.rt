@@ -1,9 +1,10 @@
-// Makes the calls of the input on the records of hours and works hours out, to be compared with an independent calculation.
+// Makes the calls of the input on books of hours, to be compared with an independent calculation.
 #![tactic(auto)]
 
 mod charging;
 mod posting;
 mod reading;
+mod settling;
 
 use anyhow::Context;
 use charging::{print_charges, print_trial};
@@ -11,6 +12,8 @@ use posting::post;
 use reading::print_reading;
 use records::Records;
 use rows::{AreaKind, Resource, ResourceKind};
+use settling::{print_line_at, print_settled, print_statement};
+use statement::Book;
 use std::alloc::Global;
 use std::array;
 use std::io::{self, BufRead, BufReader, BufWriter, Write};
@@ -32,21 +35,18 @@ fn words_of(line: &str) -> Option<[&str; WORDS]> {
 }
 
 // Enters a row, or posts a record, and gives what came of it.
-fn enter_or_post(
-    records: &mut Records,
-    words: [&str; WORDS],
-) -> anyhow::Result<Result<(), Refusal>> {
+fn enter_or_post(book: &mut Book, words: [&str; WORDS]) -> anyhow::Result<Result<(), Refusal>> {
     Ok(match words {
-        ["area", id, kind, ..] => records.enter_area(id.parse()?, word_bytes(kind)),
-        ["party", id, area, ..] => records.enter_party(id.parse()?, area.parse()?),
-        ["resource", id, owner, kind, net, exempt, ..] => records.enter_resource(
+        ["area", id, kind, ..] => book.enter_area(id.parse()?, word_bytes(kind)),
+        ["party", id, area, ..] => book.enter_party(id.parse()?, area.parse()?),
+        ["resource", id, owner, kind, net, exempt, ..] => book.enter_resource(
             id.parse()?,
             owner.parse()?,
             word_bytes(kind),
             net.parse()?,
             exempt.parse()?,
         ),
-        _ => post(records, words)?,
+        _ => post(book, words)?,
     })
 }
 
@@ -100,27 +100,41 @@ fn print_tables(out: &mut impl Write, records: &Records) -> io::Result<()> {
     writeln!(out)
 }
 
-// Makes the call of a line, and prints what came of it. Where new records are opened, it prints those before.
+fn print_book(out: &mut impl Write, book: &Book) -> io::Result<()> {
+    print_tables(out, book.records())?;
+    print_statement(out, book)
+}
+
+// Makes the call of a line, and prints what came of it. Where a new book is opened, it prints the one before.
 fn take_line(
     out: &mut impl Write,
     heap: Global,
-    current: &mut Option<Records>,
+    current: &mut Option<Book>,
     line: &str,
 ) -> anyhow::Result<()> {
     let words = words_of(line).context("a call has sixteen words at most")?;
-    if let ["open", areas, parties, resources, ..] = words {
-        if let Some(records) = current {
-            print_tables(out, records)?;
+    if let ["open", areas, parties, resources, lines, ..] = words {
+        if let Some(book) = current {
+            print_book(out, book)?;
         }
-        *current = Some(Records::open(heap, areas.parse()?, parties.parse()?, resources.parse()?)?);
+        *current = Some(Book::open(
+            heap,
+            areas.parse()?,
+            parties.parse()?,
+            resources.parse()?,
+            lines.parse()?,
+        )?);
         return Ok(());
     }
-    let records = current.as_mut().context("no records are open")?;
+    let book = current.as_mut().context("no book is open")?;
     match words {
-        ["read", ..] => print_reading(out, records, words)?,
-        ["trial", ..] => print_trial(out, records, words)?,
-        ["charge", rule, ..] => print_charges(out, records, rule)?,
-        _ => print_outcome(out, enter_or_post(records, words)?)?,
+        ["read", ..] => print_reading(out, book, words)?,
+        ["trial", ..] => print_trial(out, book, words)?,
+        ["charge", rule, ..] => print_charges(out, book.records(), rule)?,
+        ["settle", rule, times, ..] => print_settled(out, book, rule, times)?,
+        ["line", place, ..] => print_line_at(out, book, place)?,
+        ["statement", ..] => print_statement(out, book)?,
+        _ => print_outcome(out, enter_or_post(book, words)?)?,
     }
     Ok(())
 }
@@ -131,8 +145,8 @@ fn run(rt: &HostRuntime) -> anyhow::Result<()> {
     for line in BufReader::new(rt.alloc(), rt.stdin())?.lines(rt.alloc()) {
         take_line(&mut out, rt.alloc(), &mut current, line?.as_str())?;
     }
-    if let Some(records) = &current {
-        print_tables(&mut out, records)?;
+    if let Some(book) = &current {
+        print_book(&mut out, book)?;
     }
     out.flush()?;
     Ok(())

@@ -1,9 +1,9 @@
-// Prints what stands in the records.
+// Prints what stands in the records of a book.
 use super::WORDS;
 use anyhow::bail;
 use deemed::Tag;
-use records::Records;
-use rows::{Election, EnergyRecord, GivenAmount, SufficiencyTest, Transfer, Volume};
+use rows::{DeemedEnergy, Election, EnergyRecord, GivenAmount, SufficiencyTest, Transfer, Volume};
+use statement::Book;
 use std::io::{self, Write};
 use tables::Refusal;
 
@@ -12,6 +12,7 @@ use tables::Refusal;
 enum Reading {
     Energy(EnergyRecord),
     Tag(Tag),
+    Deemed(DeemedEnergy),
     Election(Election),
     Test(SufficiencyTest),
     Transfer(Transfer),
@@ -20,8 +21,13 @@ enum Reading {
 }
 
 // Makes a reading call, and gives what came of it.
-fn read(records: &Records, words: [&str; WORDS]) -> anyhow::Result<Result<Reading, Refusal>> {
+fn read(book: &Book, words: [&str; WORDS]) -> anyhow::Result<Result<Reading, Refusal>> {
+    let records = book.records();
     Ok(match words {
+        ["read", "deemed", id, interval, ..] => {
+            book.deemed(id.parse()?, interval.parse()?)
+                .map(Reading::Deemed)
+        }
         ["read", "energy", id, interval, ..] => {
             records
                 .energy(id.parse()?, interval.parse()?)
@@ -107,12 +113,13 @@ fn print_transfer(out: &mut impl Write, transfer: Transfer) -> io::Result<()> {
 // Makes a reading call, and prints the fields that it tells, or the refusal.
 pub(super) fn print_reading(
     out: &mut impl Write,
-    records: &Records,
+    book: &Book,
     words: [&str; WORDS],
 ) -> anyhow::Result<()> {
-    match read(records, words)? {
+    match read(book, words)? {
         Ok(Reading::Energy(energy)) => print_energy(out, energy)?,
         Ok(Reading::Tag(tag)) => print_tag(out, tag)?,
+        Ok(Reading::Deemed(energy)) => writeln!(out, "{}", energy.units.0)?,
         Ok(Reading::Election(election)) => print_election(out, election)?,
         Ok(Reading::Test(test)) => print_test(out, test)?,
         Ok(Reading::Transfer(transfer)) => print_transfer(out, transfer)?,

@@ -1,19 +1,21 @@
 #!/usr/bin/env python3
 """Writes the cases (stdin) and what they should give (stdout), from docs/records.md and docs/refusals.md, not from the program.
 
-A line is a call, its words parted by one space; `-` is the empty word, and `.` no word at all. `open` begins anew, with so many rows
-of each table. A posting call is named by its kind of record, and so is a reading call, behind `read`. The lines `trial` and `charge`
-are those of charging.py.
+A line is a call, its words parted by one space; `-` is the empty word, and `.` no word at all. `open` begins a new book, with so
+many rows of each table and room for so many lines. A posting call is named by its kind of record, and so is a reading call, behind
+`read`. The lines `trial` and `charge` are those of charging.py; `settle`, `line`, `statement` and `read deemed` are those of
+settling.py. Where a book is opened, and at the end, the tables and the statement of the one before are told.
 """
 import random
 import sys
 from collections import defaultdict
-from itertools import combinations, product
+from itertools import combinations, cycle, product
 from pathlib import Path
 from typing import NamedTuple
 
 sys.dont_write_bytecode = True
 import charging  # noqa: E402
+import settling  # noqa: E402
 
 HERE = Path(__file__).parent
 
@@ -61,6 +63,9 @@ KINDS = {
     "given": Kind("party", (INTERVALS, CODES), {"cents": AMOUNTS}),
 }
 
+# what is read: a deemed energy too, which is not posted
+READINGS = KINDS | {"deemed": Kind("resource", (INTERVALS,), {"units": charging.DEEMED})}
+
 # the clauses of each call, which begin with the number of their reason
 CLAUSES = {
     "area": ("2", "3", "5", "6", "7"),
@@ -81,6 +86,7 @@ CLAUSES = {
     "read transfer": ("2 id", "2 slot", "4"),
     "read demand": ("2 id", "2 slot", "4"),
     "read given": ("2 id", "2 slot", "3 code", "4"),
+    "read deemed": ("2 id", "2 slot", "4"),
 }
 # the pairs of them that never fit at once
 APART = {"area": {("2", "5"), ("3", "6")}, "party": {("4", "6")}, "resource": {("4", "6")}}
@@ -108,21 +114,23 @@ def outside(values):
 
 def nothing(record):
     """The fields of a record that was never posted."""
-    return {name: None if values is TYPES else 0 for name, values in KINDS[record].fields.items()}
+    return {name: None if values is TYPES else 0 for name, values in READINGS[record].fields.items()}
 
 
 def shown(argument):
     return {"": "-", None: "."}.get(argument, str(argument))
 
 
-class Records:
-    """Each table's rows by their ids, in the order entered, a row with a list of what stands behind its id; and what is posted."""
+class Book:
+    """Each table's rows by their ids, in the order entered, a row with a list of what stands behind its id; what is posted; and
+    the statement."""
 
-    def __init__(self, *rows):
+    def __init__(self, *rows, lines):
         self.rows = {table: min(asked, full) for asked, (table, full) in zip(rows, FULL.items())}
         self.areas, self.parties, self.resources = {}, {}, {}
         self.tables = {"area": self.areas, "party": self.parties, "resource": self.resources}
         self.posted = {}
+        self.statement = settling.Statement(lines)
 
     def outside_c(self, party):
         """Whether it is entered and no party of the C area."""
@@ -157,7 +165,7 @@ class Records:
         }
 
     def about_reading(self, record, id, slot=None, code=None):
-        table, key, _ = KINDS[record]
+        table, key, _ = READINGS[record]
         return {
             "2 id": id not in SPAN,
             "2 slot": len(key) > 0 and slot not in key[0],
@@ -182,6 +190,7 @@ class Records:
         about = {"area": self.about_area, "party": self.about_party, "resource": self.about_resource}[table](id, *rest)
         if not any(about.values()):
             self.tables[table][id] = list(rest)
+            self.statement.changed()
         return about, "ok"
 
     def post(self, record, *arguments):
@@ -190,6 +199,7 @@ class Records:
         about = self.about_posting(record, key, fields)
         if not any(about.values()):
             self.posted[record, *key] = fields
+            self.statement.changed()
         return about, "ok"
 
     def trial(self, id, interval, *arguments):
@@ -202,7 +212,8 @@ class Records:
         return charging.Hour(self.areas, self.parties, self.resources, self.posted)
 
     def read(self, record, *key):
-        fields = self.posted.get((record, *key), nothing(record).values())
+        stands = self.statement.energies() if record == "deemed" else self.posted
+        fields = stands.get((record, *key), nothing(record).values())
         return self.about_reading(record, *key), " ".join(map(shown, fields))
 
     def take(self, call, arguments):
@@ -215,7 +226,7 @@ class Records:
             about, line = act(name, *arguments)
         fitting = sorted(clause for clause, fits in about.items() if fits)
         if fitting:
-            slot = arguments[1] if name == "trial" or name in KINDS and KINDS[name].key else 0
+            slot = arguments[1] if name == "trial" or name in READINGS and READINGS[name].key else 0
             line = f"refused {fitting[0][0]} part 3 interval {slot} id {arguments[0]}"
         return fitting, line
 
@@ -223,6 +234,7 @@ class Records:
         tables = {"areas": self.areas, "parties": self.parties, "resources": self.resources}
         for name, table in tables.items():
             yield " ".join([name, *(":".join(map(str, [id, *rest])) for id, rest in table.items())])
+        yield from self.statement.block(self.hour())
 
 
 def arguments(call, words):
@@ -232,27 +244,36 @@ def arguments(call, words):
     return [{"-": "", ".": None}.get(argument, argument) for argument in given]
 
 
-def expected(cases):
-    """The lines that are wanted. Each pair of clauses that can fit at once must be among the cases."""
-    met = defaultdict(set)
-    records = None
+def answers(cases, met):
+    """The lines that are wanted. Of each call it is noted in `met` which clauses fitted at once."""
+    book = None
     for line in cases:
         call, *words = line.split(" ")
         if call == "open":
-            if records:
-                yield from records.lines()
-            records = Records(*map(int, words))
+            if book:
+                yield from book.lines()
+            *rows, lines = map(int, words)
+            book = Book(*rows, lines=lines)
             continue
         if call == "charge":
-            yield from charging.charge_lines(records.hour(), *words)
+            yield from charging.charge_lines(book.hour(), *words)
+            continue
+        if call in ("settle", "line", "statement"):
+            yield from book.statement.answer(book.hour(), call, *words)
             continue
         if call == "read":
             record, *words = words
             call = f"read {record}"
-        fitting, answer = records.take(call, arguments(call, words))
+        fitting, answer = book.take(call, arguments(call, words))
         met[call].update(combinations(fitting, 2))
         yield answer
-    yield from records.lines()
+    yield from book.lines()
+
+
+def expected(cases):
+    """The lines that are wanted. Each pair of clauses that can fit at once must be among the cases."""
+    met = defaultdict(set)
+    yield from answers(cases, met)
     for call, clauses in CLAUSES.items():
         assert met[call] == set(combinations(clauses, 2)) - APART.get(call, APART_IN_POSTS), (call, met[call])
 
@@ -501,12 +522,20 @@ def drawn_posts(draw):
     yield from (read(record, key) for record, key in keys(1, 2, 3))
 
 
+def with_room(cases):
+    """Where a book is opened, room for its lines: mostly that of a whole table, here and there less, or more than there can be."""
+    rooms = cycle((4_096, 4_096, 4_096, 0, 4_096, 4_097, 4_096, 1, 4_096, 65_536, 4_095))
+    return [f"{line} {next(rooms)}" if line.startswith("open ") else line for line in cases]
+
+
 def main():
     rows = (area_edges, area_pairs, party_edges, party_pairs, resource_edges, resource_pairs, few_rows, many_rows)
     posts = (field_edges, dispatch_types, codes, span_edges, clause_pairs, misfits)
     cases = [line for lines in rows for line in lines()] + list(drawn(random.Random(180)))
     cases += [line for lines in posts for line in lines()]
     cases += [*own_records(random.Random(181)), *drawn_posts(random.Random(184)), *charging.lines()]
+    cases = [*with_room(cases), *settling.lines()]
+    settling.assert_documented(list(answers(settling.recalculation(), defaultdict(set))))
     with open(HERE / "stdin", "w", encoding="utf-8") as given, open(HERE / "stdout", "w", encoding="utf-8") as wanted:
         print(*cases, sep="\n", file=given)
         print(*expected(cases), sep="\n", file=wanted)

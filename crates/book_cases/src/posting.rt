@@ -1,8 +1,8 @@
 // Posts what a line says.
 use super::{WORDS, word_bytes};
 use anyhow::bail;
-use records::Records;
 use rows::{DispatchWord, ElectionPost, EnergyPost, TagPost, TestPost, TransferPost};
+use statement::Book;
 use tables::Refusal;
 
 // What the word of a type says. A line shows no word as a dot.
@@ -85,34 +85,31 @@ fn transfer_post(
 }
 
 // Makes a posting call, and gives what came of it.
-pub(super) fn post(
-    records: &mut Records,
-    words: [&str; WORDS],
-) -> anyhow::Result<Result<(), Refusal>> {
+pub(super) fn post(book: &mut Book, words: [&str; WORDS]) -> anyhow::Result<Result<(), Refusal>> {
     Ok(match words {
         ["energy", id, interval, ..] => {
-            records.post_energy(id.parse()?, interval.parse()?, energy_post(words)?)
+            book.post_energy(id.parse()?, interval.parse()?, energy_post(words)?)
         }
         ["tag", id, interval, kw, telemetry, curtailed, ..] => {
             let post = tag_post(kw, telemetry, curtailed)?;
-            records.post_tag(id.parse()?, interval.parse()?, post)
+            book.post_tag(id.parse()?, interval.parse()?, post)
         }
         ["election", id, opted_in, cap, up, nopay, ..] => {
-            records.post_election(id.parse()?, election_post(opted_in, cap, up, nopay)?)
+            book.post_election(id.parse()?, election_post(opted_in, cap, up, nopay)?)
         }
         ["test", id, quarter, capacity, ramp, nopay, ..] => {
             let post = test_post(capacity, ramp, nopay)?;
-            records.post_test(id.parse()?, quarter.parse()?, post)
+            book.post_test(id.parse()?, quarter.parse()?, post)
         }
         ["transfer", id, interval, to, base_to, from, base_from, ..] => {
             let post = transfer_post(to, base_to, from, base_from)?;
-            records.post_transfer(id.parse()?, interval.parse()?, post)
+            book.post_transfer(id.parse()?, interval.parse()?, post)
         }
         ["demand", id, interval, units, ..] => {
-            records.post_demand(id.parse()?, interval.parse()?, units.parse()?)
+            book.post_demand(id.parse()?, interval.parse()?, units.parse()?)
         }
         ["given", id, interval, code, cents, ..] => {
-            records.post_given(
+            book.post_given(
                 id.parse()?,
                 interval.parse()?,
                 code.parse()?,

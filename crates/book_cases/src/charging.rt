@@ -6,17 +6,18 @@ use charges::{ChargeCode, ChargeFault, HourAmounts, IntervalAmounts, work_out};
 use records::Records;
 use rows::Cents;
 use sharing::{LargestRemainder, Running};
+use statement::Book;
 use std::io::{self, Write};
 
 // Tries the record of a line, whose last word is the deemed energy, and prints the products.
 pub(super) fn print_trial(
     out: &mut impl Write,
-    records: &mut Records,
+    book: &mut Book,
     words: [&str; WORDS],
 ) -> anyhow::Result<()> {
     let [_trial, id, interval, .., deemed] = words;
     let post = energy_post(words)?;
-    match records.trial(id.parse()?, interval.parse()?, post, deemed.parse()?) {
+    match book.trial(id.parse()?, interval.parse()?, post, deemed.parse()?) {
         Ok(products) => writeln!(out, "products {}", products.0)?,
         Err(refusal) => writeln!(out, "{refusal}")?,
     }
