@@ -1,14 +1,16 @@
 // Shares some pools of money, and then the energy of some ties' hours, under both rules; then enters the areas, parties and
-// resources of an hour, posts its records and reads them back, and works its charges out.
+// resources of an hour, posts its records and reads them back, and works its charges out; then settles two hours in books.
 #![tactic(auto)]
 
 mod charging;
 mod entering;
 mod figures;
+mod hours;
 mod parties;
 mod pools;
 mod posting;
 mod sample;
+mod settling;
 mod table;
 mod tags;
 mod ties;
@@ -19,6 +21,7 @@ use entering::{AREAS, PARTIES, RESOURCES, print_entries};
 use pools::{POOLS, SamplePool, enter_parties};
 use posting::print_posts;
 use records::Records;
+use settling::print_hours;
 use sharing::{LargestRemainder, Running};
 use std::io::{BufWriter, Write};
 use table::{HEADER, print_shared};
@@ -47,6 +50,7 @@ fn run(rt: &HostRuntime) -> anyhow::Result<()> {
     print_entries(&mut out, &mut records)?;
     print_posts(&mut out, &mut records)?;
     print_charges(&mut out, &mut records)?;
+    print_hours(&mut out, rt.alloc())?;
     out.flush()?;
     Ok(())
 }

@@ -17,26 +17,26 @@ pub(super) const NO_ENERGY: EnergyPost = EnergyPost {
     ed: DispatchWord::Absent,
 };
 
-const NO_TAG: TagPost = TagPost {
+pub(super) const NO_TAG: TagPost = TagPost {
     kw: 0,
     telemetry: 0,
     curtailed: 0,
 };
 
-const NO_ELECTION: ElectionPost = ElectionPost {
+pub(super) const NO_ELECTION: ElectionPost = ElectionPost {
     opted_in: 0,
     cap: 0,
     up: 0,
     nopay: 0,
 };
 
-const NO_TEST: TestPost = TestPost {
+pub(super) const NO_TEST: TestPost = TestPost {
     capacity: 0,
     ramp: 0,
     nopay: 0,
 };
 
-const NO_TRANSFER: TransferPost = TransferPost {
+pub(super) const NO_TRANSFER: TransferPost = TransferPost {
     to: 0,
     base_to: 0,
     from: 0,
