@@ -61,6 +61,14 @@ fn print_settled<R: SharingRule>(
 // Of every book the law holds, so also of this one.
 fn print_lines(out: &mut impl Write, book: &Book) -> io::Result<()> {
     book.law();
+    let count = book.line_count();
+    let runs = book.runs();
+    let standing = if book.is_settled() {
+        "settled"
+    } else {
+        "not settled"
+    };
+    writeln!(out, "{count} lines in {runs} runs, {standing}")?;
     writeln!(out, "{LINES_HEADER}")?;
     for line in book.lines() {
         writeln!(
