@@ -1,4 +1,5 @@
--- What holds along every history gives the promises. Assumes nothing.
+-- What holds along every history (Reaching) gives the promises. Of the charges it uses `IntervalLaws`, `EnergyLaws` and which columns an
+-- interval has (`IntervalCharged`). No formula, rule or rounding is opened. Assumes nothing.
 use Rattle.std.proofs.Common.{◌≡◌, ℕ, ◌<◌, ◌≤◌, true, false, List, [], ◌∷◌, ◌++◌, map, length, get_or, drop, ℤ, pos, refl, sym, ap, subst, ◌∙◌, arith, sum}
 use Rattle.std.specs.List.{All}
 use Rattle.std.proofs.lemmas.List.{length-map}
