@@ -1,0 +1,2 @@
+pub mod Texts
+pub mod Numbers
