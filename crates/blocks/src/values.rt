@@ -1,0 +1,192 @@
+// The values of a line under the names of its block, and what they order.
+ghost use Rattle.std.specs.Prelude.{◌≡◌, ◌<◌, ℕ, List, length, replicate, None, pos};
+ghost use Rattle.std.specs.declared.option.Option.{Option};
+ghost use Rattle.blocks.specs.declared.block.Block.TheVariants.{Energy, Tag, Election, Test, Transfer};
+ghost use Rattle.blocks.specs.Names.{block_names};
+ghost use Rattle.blocks.specs.Orders.{energy_post, election_post, order_of, tag_post, test_post, transfer_post};
+ghost use Rattle.blocks.specs.Values.{Held, Put, most_names};
+
+use super::block::{Block, MOST_NAMES};
+use super::order::Order;
+use super::rule::Rule;
+use records::Call;
+use rows::{
+    AreaKind, DispatchWord, ElectionPost, EnergyPost, ResourceKind, TagPost, TestPost, TransferPost,
+};
+use words::{is_word, number};
+
+// The numbers stand at the places of their names; one that is left out is 0.
+#[derive(Clone, Copy, Drop)]
+pub(crate) struct Values<'a> {
+    pub(crate) numbers: [i64; MOST_NAMES],
+    pub(crate) word: Option<&'a [u8]>,
+}
+
+impl<'a> Values<'a> {
+    // Every value left out.
+    pub(crate) fn none() -> Values<'a>
+        ensures numbers { result.numbers ≡ replicate most_names (pos 0) }
+        ensures word { result.word ≡ None }
+    {
+        Values {
+            numbers: [0; MOST_NAMES],
+            word: None,
+        }
+    }
+
+    // Takes the value that stands in the column of a name, by its place, if it may stand there.
+    #[tactic(auto, using(crate::proofs::Columns::words_stand))]
+    pub(crate) fn put(&mut self, block: Block, place: usize, value: &'a [u8]) -> Option<()>
+        requires { place < length (block_names block) }
+        ensures { Put block place value.now self.old self.new result }
+    {
+        if block.word_place() == Some(place) {
+            if !is_word(value) {
+                return None;
+            }
+            self.word = Some(value);
+        } else {
+            self.numbers[place] = number(value)?;
+        }
+        Some(())
+    }
+
+    fn energy_post(&self) -> EnergyPost
+        ensures { (value : List ℕ → Option (List ℕ)) → Held Energy value self.now → result ≡ energy_post value }
+    {
+        let [
+            _,
+            _,
+            lmp,
+            mss,
+            resprice,
+            edprice,
+            iie,
+            oa,
+            mssiie,
+            res,
+            above,
+            edqty,
+            resflag,
+            _,
+        ] = self.numbers;
+        EnergyPost {
+            lmp,
+            mss,
+            resprice,
+            edprice,
+            iie,
+            oa,
+            mssiie,
+            res,
+            above,
+            edqty,
+            resflag,
+            ed: DispatchWord::of(self.word),
+        }
+    }
+
+    fn tag_post(&self) -> TagPost
+        ensures { (value : List ℕ → Option (List ℕ)) → Held Tag value self.now → result ≡ tag_post value }
+    {
+        let [_, _, kw, telemetry, curtailed, ..] = self.numbers;
+        TagPost {
+            kw,
+            telemetry,
+            curtailed,
+        }
+    }
+
+    fn election_post(&self) -> ElectionPost
+        ensures { (value : List ℕ → Option (List ℕ)) → Held Election value self.now → result ≡ election_post value }
+    {
+        let [_, opted_in, cap, up, nopay, ..] = self.numbers;
+        ElectionPost {
+            opted_in,
+            cap,
+            up,
+            nopay,
+        }
+    }
+
+    fn test_post(&self) -> TestPost
+        ensures { (value : List ℕ → Option (List ℕ)) → Held Test value self.now → result ≡ test_post value }
+    {
+        let [_, _, capacity, ramp, nopay, ..] = self.numbers;
+        TestPost {
+            capacity,
+            ramp,
+            nopay,
+        }
+    }
+
+    fn transfer_post(&self) -> TransferPost
+        ensures { (value : List ℕ → Option (List ℕ)) → Held Transfer value self.now → result ≡ transfer_post value }
+    {
+        let [_, _, to, base_to, from, base_from, ..] = self.numbers;
+        TransferPost {
+            to,
+            base_to,
+            from,
+            base_from,
+        }
+    }
+
+    // What they order in a line of a block; nothing where a settle names no rule.
+    pub(crate) fn order(&self, block: Block) -> Option<Order>
+        ensures { (value : List ℕ → Option (List ℕ)) → Held block value self.now → result ≡ order_of block value }
+    {
+        let [id, second, third, fourth, fifth, ..] = self.numbers;
+        let call = match block {
+            Block::Area => Call::EnterArea {
+                id,
+                kind: self.word.and_then(AreaKind::named),
+            },
+            Block::Party => Call::EnterParty { id, area: second },
+            Block::Resource => Call::EnterResource {
+                id,
+                owner: second,
+                kind: self.word.and_then(ResourceKind::named),
+                net: fourth,
+                exempt: fifth,
+            },
+            Block::Energy => Call::PostEnergy {
+                id,
+                interval: second,
+                post: self.energy_post(),
+            },
+            Block::Tag => Call::PostTag {
+                id,
+                interval: second,
+                post: self.tag_post(),
+            },
+            Block::Election => Call::PostElection {
+                id,
+                post: self.election_post(),
+            },
+            Block::Test => Call::PostTest {
+                id,
+                quarter: second,
+                post: self.test_post(),
+            },
+            Block::Transfer => Call::PostTransfer {
+                id,
+                interval: second,
+                post: self.transfer_post(),
+            },
+            Block::Demand => Call::PostDemand {
+                id,
+                interval: second,
+                units: third,
+            },
+            Block::Given => Call::PostGiven {
+                id,
+                interval: second,
+                code: third,
+                cents: fourth,
+            },
+            Block::Settle => return self.word.and_then(Rule::named).map(Order::Settle),
+        };
+        Some(Order::Call(call))
+    }
+}
