@@ -1,0 +1,9 @@
+pub mod Numbered
+pub mod ReadingOn
+pub mod LongLines
+pub mod PartedLines
+pub mod Leading
+pub mod Writing
+pub mod Carried
+pub mod Printed
+pub mod OneOutput

@@ -1,0 +1,5 @@
+pub mod Carrying
+pub mod Inputs
+pub mod Printing
+pub mod Feeding
+pub mod Promised
