@@ -1,3 +1,0 @@
-pub mod Parties
-pub mod Tags
-pub mod Entering
