@@ -51,6 +51,8 @@ def edges():
     yield hour((5, 7, 0), (-5, 7, 0))
     yield hour((5, 7, 0), (-5, 7, 1))
     yield hour((0, 7, 0), (0, 0, 1))
+    yield hour((-40, 7, 0), (-30, 7, 0), (-20, 7, 0), (-10, 7, 1))
+    yield hour((300, 200, 1), (0, 50, 0))
     yield [(1, 0, 0)] * INTERVALS
     yield [(0, 0, 0)] * (INTERVALS - 1) + [(1, 0, 0)]
     for sign in (1, -1):
