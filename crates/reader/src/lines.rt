@@ -1,7 +1,5 @@
 // Takes the lines of an input, one after another, on a book.
-ghost use Rattle.std.specs.Prelude.{◌≡◌, IfOk};
-ghost use Rattle.statement.specs.Histories.{History};
-ghost use Rattle.statement.specs.Promises.{Promises};
+ghost use Rattle.std.specs.Prelude.{◌≡◌, OnErr};
 ghost use Rattle.reader.specs.Inputs.{LineTaken, starting};
 
 use super::carrying::carry_out;
@@ -44,6 +42,7 @@ impl LineReader {
     // as it was.
     pub fn take_line(&mut self, line: &[u8]) -> Result<Option<Order>, Refusal>
         ensures taken { LineTaken line.now self.old self.new result }
+        ensures kept { OnErr result (self.new.book ≡ self.old.book) }
     {
         let said = self.mode.read(line)?;
         if let Some(order) = said {

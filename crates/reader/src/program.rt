@@ -1,5 +1,5 @@
 // The program: an input to its output.
-ghost use Rattle.std.specs.Prelude.{OnOk, ◌<◌, [], length};
+ghost use Rattle.std.specs.Prelude.{◌<◌, [], OnOk, length};
 ghost use Rattle.statement.specs.Promises.{Promises};
 ghost use Rattle.reader.specs.Feeding.{Led};
 ghost use Rattle.reader.specs.Promised.{Fed, FinishedWith, OneOutput, Printed, full_book};
