@@ -1,9 +1,10 @@
 // The values of a line under the names of its block, and what they order.
-ghost use Rattle.std.specs.Prelude.{◌≡◌, ◌<◌, ℕ, List, length, replicate, None, pos};
+ghost use Rattle.std.specs.Prelude.{◌≡◌, ◌<◌, ℕ, List, length, replicate, Some, None, pos};
 ghost use Rattle.std.specs.declared.option.Option.{Option};
 ghost use Rattle.blocks.specs.declared.block.Block.TheVariants.{Energy, Tag, Election, Test, Transfer};
+ghost use Rattle.blocks.specs.declared.order.Order.TheVariants.{Call as CallOf};
 ghost use Rattle.blocks.specs.Names.{block_names};
-ghost use Rattle.blocks.specs.Orders.{energy_post, election_post, order_of, tag_post, test_post, transfer_post};
+ghost use Rattle.blocks.specs.Orders.{order_of};
 ghost use Rattle.blocks.specs.Values.{Held, Put, most_names};
 
 use super::block::{Block, MOST_NAMES};
@@ -51,12 +52,12 @@ impl<'a> Values<'a> {
         Some(())
     }
 
-    fn energy_post(&self) -> EnergyPost
-        ensures { (value : List ℕ → Option (List ℕ)) → Held Energy value self.now → result ≡ energy_post value }
+    fn energy(&self) -> Call
+        ensures { (value : List ℕ → Option (List ℕ)) → Held Energy value self.now → Some (CallOf result) ≡ order_of Energy value }
     {
         let [
-            _,
-            _,
+            id,
+            interval,
             lmp,
             mss,
             resprice,
@@ -70,7 +71,7 @@ impl<'a> Values<'a> {
             resflag,
             _,
         ] = self.numbers;
-        EnergyPost {
+        let post = EnergyPost {
             lmp,
             mss,
             resprice,
@@ -83,53 +84,58 @@ impl<'a> Values<'a> {
             edqty,
             resflag,
             ed: DispatchWord::of(self.word),
-        }
+        };
+        Call::PostEnergy { id, interval, post }
     }
 
-    fn tag_post(&self) -> TagPost
-        ensures { (value : List ℕ → Option (List ℕ)) → Held Tag value self.now → result ≡ tag_post value }
+    fn tag(&self) -> Call
+        ensures { (value : List ℕ → Option (List ℕ)) → Held Tag value self.now → Some (CallOf result) ≡ order_of Tag value }
     {
-        let [_, _, kw, telemetry, curtailed, ..] = self.numbers;
-        TagPost {
+        let [id, interval, kw, telemetry, curtailed, ..] = self.numbers;
+        let post = TagPost {
             kw,
             telemetry,
             curtailed,
-        }
+        };
+        Call::PostTag { id, interval, post }
     }
 
-    fn election_post(&self) -> ElectionPost
-        ensures { (value : List ℕ → Option (List ℕ)) → Held Election value self.now → result ≡ election_post value }
+    fn election(&self) -> Call
+        ensures { (value : List ℕ → Option (List ℕ)) → Held Election value self.now → Some (CallOf result) ≡ order_of Election value }
     {
-        let [_, opted_in, cap, up, nopay, ..] = self.numbers;
-        ElectionPost {
+        let [id, opted_in, cap, up, nopay, ..] = self.numbers;
+        let post = ElectionPost {
             opted_in,
             cap,
             up,
             nopay,
-        }
+        };
+        Call::PostElection { id, post }
     }
 
-    fn test_post(&self) -> TestPost
-        ensures { (value : List ℕ → Option (List ℕ)) → Held Test value self.now → result ≡ test_post value }
+    fn test(&self) -> Call
+        ensures { (value : List ℕ → Option (List ℕ)) → Held Test value self.now → Some (CallOf result) ≡ order_of Test value }
     {
-        let [_, _, capacity, ramp, nopay, ..] = self.numbers;
-        TestPost {
+        let [id, quarter, capacity, ramp, nopay, ..] = self.numbers;
+        let post = TestPost {
             capacity,
             ramp,
             nopay,
-        }
+        };
+        Call::PostTest { id, quarter, post }
     }
 
-    fn transfer_post(&self) -> TransferPost
-        ensures { (value : List ℕ → Option (List ℕ)) → Held Transfer value self.now → result ≡ transfer_post value }
+    fn transfer(&self) -> Call
+        ensures { (value : List ℕ → Option (List ℕ)) → Held Transfer value self.now → Some (CallOf result) ≡ order_of Transfer value }
     {
-        let [_, _, to, base_to, from, base_from, ..] = self.numbers;
-        TransferPost {
+        let [id, interval, to, base_to, from, base_from, ..] = self.numbers;
+        let post = TransferPost {
             to,
             base_to,
             from,
             base_from,
-        }
+        };
+        Call::PostTransfer { id, interval, post }
     }
 
     // What they order in a line of a block; nothing where a settle names no rule.
@@ -150,30 +156,11 @@ impl<'a> Values<'a> {
                 net: fourth,
                 exempt: fifth,
             },
-            Block::Energy => Call::PostEnergy {
-                id,
-                interval: second,
-                post: self.energy_post(),
-            },
-            Block::Tag => Call::PostTag {
-                id,
-                interval: second,
-                post: self.tag_post(),
-            },
-            Block::Election => Call::PostElection {
-                id,
-                post: self.election_post(),
-            },
-            Block::Test => Call::PostTest {
-                id,
-                quarter: second,
-                post: self.test_post(),
-            },
-            Block::Transfer => Call::PostTransfer {
-                id,
-                interval: second,
-                post: self.transfer_post(),
-            },
+            Block::Energy => self.energy(),
+            Block::Tag => self.tag(),
+            Block::Election => self.election(),
+            Block::Test => self.test(),
+            Block::Transfer => self.transfer(),
             Block::Demand => Call::PostDemand {
                 id,
                 interval: second,
