@@ -6,7 +6,7 @@ use Rattle.std.specs.List.{range_with_len}
 use Rattle.std.proofs.lemmas.List.FromFn.{get_or-map-range_with_len}
 use Rattle.blocks.specs.declared.block.Block.{Block}
 use Rattle.blocks.specs.Names.{block_names, name_at, place_among, word_name}
-use Rattle.blocks.specs.Values.{most_names}
+use Rattle.blocks.specs.Working.{most_names}
 
 pub few_names : (b : Block) → length (block_names b) ≤ most_names
 few_names b = grind arith

@@ -19,7 +19,7 @@ use Rattle.words.specs.Texts.{words_of}
 use Rattle.blocks.specs.declared.block.Block.{Block}
 use Rattle.blocks.specs.Names.{block_names, block_of, name_at, place_among}
 use Rattle.blocks.specs.Headings.{distinct, headed, heading_of, is_heading, is_name_of, is_short, longest_line}
-use Rattle.blocks.specs.Values.{most_names}
+use Rattle.blocks.specs.Working.{most_names}
 use Rattle.blocks.proofs.Columns.{few_names}
 use Rattle.blocks.proofs.Names.{IsPlace, named_among, distinct_names, repeated}
 

@@ -11,7 +11,8 @@ use Rattle.blocks.specs.declared.block.Block.{Block}
 use Rattle.blocks.specs.declared.values.Values.{Values}
 use Rattle.blocks.specs.Headings.{distinct}
 use Rattle.blocks.specs.Names.{name_at}
-use Rattle.blocks.specs.Values.{Held, Put, Read, under, values_fit, may_stand, most_names}
+use Rattle.blocks.specs.Values.{under, values_fit, may_stand}
+use Rattle.blocks.specs.Working.{Held, Put, Read, most_names}
 use Rattle.blocks.proofs.Names.{IsPlace, distinct_names, repeated}
 use Rattle.blocks.proofs.Unders.{fits_behind, none_under, under_more, held_more, nothing_held}
 

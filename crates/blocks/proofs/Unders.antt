@@ -13,7 +13,8 @@ use Rattle.words.specs.Numbers.{number_of}
 use Rattle.blocks.specs.declared.block.Block.{Block}
 use Rattle.blocks.specs.declared.values.Values.{Values}
 use Rattle.blocks.specs.Names.{block_names, name_at, word_name}
-use Rattle.blocks.specs.Values.{Held, Put, under, may_stand, values_fit, number_or_0, numbers_under, most_names}
+use Rattle.blocks.specs.Values.{under, may_stand, values_fit, number_or_0}
+use Rattle.blocks.specs.Working.{Held, Put, numbers_under, most_names}
 use Rattle.blocks.proofs.Columns.{few_names}
 use Rattle.blocks.proofs.Names.{IsPlace, same_names}
 

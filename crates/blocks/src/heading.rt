@@ -2,7 +2,7 @@
 ghost use Rattle.std.specs.Prelude.{◌≡◌};
 ghost use Rattle.blocks.specs.Headings.{heading_of};
 ghost use Rattle.blocks.specs.Orders.{order_in};
-ghost use Rattle.blocks.specs.Values.{Read};
+ghost use Rattle.blocks.specs.Working.{Read};
 
 use super::block::{Block, MOST_NAMES};
 use super::order::Order;

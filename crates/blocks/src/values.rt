@@ -5,7 +5,7 @@ ghost use Rattle.blocks.specs.declared.block.Block.TheVariants.{Energy, Tag, Ele
 ghost use Rattle.blocks.specs.declared.order.Order.TheVariants.{Call as CallOf};
 ghost use Rattle.blocks.specs.Names.{block_names};
 ghost use Rattle.blocks.specs.Orders.{order_of};
-ghost use Rattle.blocks.specs.Values.{Held, Put, most_names};
+ghost use Rattle.blocks.specs.Working.{Held, Put, most_names};
 
 use super::block::{Block, MOST_NAMES};
 use super::order::Order;

@@ -12,7 +12,8 @@ use Rattle.reader.specs.Carrying.{Outcome, Obeyed}
 use Rattle.reader.specs.Inputs.{starting, LineTaken, LinesTaken}
 use Rattle.blocks.specs.Lines.{read_line}
 use Rattle.reader.specs.Printing.{next_number, refused_after}
-use Rattle.reader.specs.Feeding.{most_kept, Led, LedOn, ReadOn, Ended, LineEnded}
+use Rattle.reader.specs.Feeding.{most_kept, Led, LedOn, ReadOn, Ended}
+use Rattle.reader.specs.Working.{LineEnded}
 use Rattle.reader.proofs.LongLines.{line_kept, kept_more}
 use Rattle.reader.proofs.PartedLines.{pieces_go_on, first_whole, one_piece, pieces_ended}
 

@@ -10,7 +10,8 @@ use Rattle.reader.specs.declared.input.InputReader.{InputReader}
 use Rattle.reader.specs.Carrying.{Outcome}
 use Rattle.reader.specs.Feeding.{Led}
 use Rattle.reader.specs.Printing.{refused_after, refusals_text, listing_text}
-use Rattle.reader.specs.Promised.{Fed, FinishedWith, Printed, full_book, output_of}
+use Rattle.reader.specs.Promised.{Printed, full_book, output_of}
+use Rattle.reader.specs.Working.{Fed, FinishedWith}
 use Rattle.reader.proofs.Carried.{history_of_input, carried_by_input}
 use Rattle.reader.proofs.Numbered.{numbered, refusals_more}
 use Rattle.reader.proofs.Writing.{wrote_on}

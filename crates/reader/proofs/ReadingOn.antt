@@ -6,7 +6,7 @@ use Rattle.reader.specs.declared.refused.RefusedLine.{RefusedLine}
 use Rattle.reader.specs.Carrying.{Outcome}
 use Rattle.reader.specs.Printing.{number_after, refusals_text}
 use Rattle.reader.specs.Feeding.{LedOn, ReadOn}
-use Rattle.reader.specs.Promised.{Fed}
+use Rattle.reader.specs.Working.{Fed}
 use Rattle.reader.proofs.Numbered.{number_after_all, refused_after_all}
 
 led_on_by_none : (reader : InputReader) → LedOn [] reader reader []

@@ -6,8 +6,8 @@ use Rattle.statement.specs.declared.statement.Statement.{Statement}
 use Rattle.reader.specs.declared.input.InputReader.{InputReader}
 use Rattle.reader.specs.declared.refused.RefusedLine.{RefusedLine}
 use Rattle.reader.specs.Carrying.{Outcome}
-use Rattle.reader.specs.Inputs.{lines_of, starting, LineTaken, LinesTaken, InputTaken}
-use Rattle.reader.specs.Printing.{most_number, next_number, number_after, refused_after}
+use Rattle.reader.specs.Inputs.{lines_of, starting, LinesTaken, InputTaken}
+use Rattle.reader.specs.Printing.{most_number, number_after, refused_after}
 
 -- so much is kept of a line that has begun: of a line that is too long, so much that it still is
 abbrev pub most_kept : ℕ
@@ -48,11 +48,3 @@ pub record Ended (before after : InputReader) (refused : Option RefusedLine) : T
   pub taken : (start : Statement) (input : List ℕ) (earlier : List Outcome) → Led start input before earlier → InputTaken input start after.lines.book (earlier ++ outcomes)
   pub told : option_to_list refused ≡ refused_after before.number outcomes
   pub again : Led after.lines.book [] after []
-
--- A line that has begun and ends with some bytes: it is taken whole, and the next begins.
-pub record LineEnded (bytes : List ℕ) (before after : InputReader) (refused : Option RefusedLine) : Type 0 where
-  pub outcome : Outcome
-  pub taken : LineTaken (take most_kept (before.begun.items ++ bytes)) before.lines after.lines outcome
-  pub number : after.number ≡ next_number before.number
-  pub begun : after.begun.items ≡ []
-  pub told : option_to_list refused ≡ refused_after before.number (outcome ∷ [])

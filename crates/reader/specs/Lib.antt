@@ -3,3 +3,4 @@ pub mod Inputs
 pub mod Printing
 pub mod Feeding
 pub mod Promised
+pub mod Working

@@ -1,6 +1,5 @@
 -- What is true of every input. Assumes nothing.
 use Rattle.std.specs.Prelude.{◌≡◌, ℕ, List, [], ◌∷◌, ◌++◌, filter_map, Option, None, Ok, Err}
-use Rattle.std.specs.Option.{option_to_list}
 use Rattle.std.specs.Io.KnownBytes.{Appends, Consumes, IsAtEnd}
 use Rattle.records.specs.Ranges.{most_areas, most_parties, most_resources}
 use Rattle.statement.specs.Ranges.{most_lines}
@@ -9,11 +8,8 @@ use Rattle.statement.specs.Statements.{opened}
 use Rattle.statement.specs.Histories.{History}
 use Rattle.statement.specs.Promises.{Promises}
 use Rattle.blocks.specs.declared.order.Order.{Order}
-use Rattle.reader.specs.declared.input.InputReader.{InputReader}
-use Rattle.reader.specs.declared.refused.RefusedLine.{RefusedLine}
 use Rattle.reader.specs.Carrying.{Outcome, Carried}
 use Rattle.reader.specs.Inputs.{InputTaken}
-use Rattle.reader.specs.Feeding.{LedOn, Ended}
 use Rattle.reader.specs.Printing.{refused_after, refusals_text, listing_text}
 
 -- the orders that were accepted, in turn
@@ -36,18 +32,6 @@ full_book = opened most_areas most_parties most_resources most_lines
 -- what is printed of an input: its refused lines, and then the listing of the statement that it leads to
 abbrev pub output_of : List Outcome → Statement → List ℕ
 output_of outcomes statement = refusals_text (refused_after 0 outcomes) ++ listing_text statement.lines.rows
-
--- bytes of an input are read, and what is refused in them is printed, by the bytes that the writer holds
-pub record Fed (bytes : List ℕ) (before after : InputReader) (held holds : Option (List ℕ)) : Type 0 where
-  pub outcomes : List Outcome
-  pub led : LedOn bytes before after outcomes
-  pub written : Appends held holds (refusals_text (refused_after before.number outcomes))
-
--- an input ends, and the rest of what is printed of it is
-pub record FinishedWith (before after : InputReader) (held holds : Option (List ℕ)) : Type 0 where
-  pub refused : Option RefusedLine
-  pub ended : Ended before after refused
-  pub written : Appends held holds (refusals_text (option_to_list refused) ++ listing_text after.lines.book.lines.rows)
 
 -- A whole input read to its end and printed, by the bytes that the reader gives before and after, and those that the writer holds
 pub record Printed (given left held holds : Option (List ℕ)) : Type 0 where

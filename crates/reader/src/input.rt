@@ -1,6 +1,7 @@
 // Reads an input, in whatever pieces it comes.
 ghost use Rattle.std.specs.Prelude.{◌≡◌, ◌++◌, [], take};
-ghost use Rattle.reader.specs.Feeding.{Ended, Led, LineEnded, NextRefused, most_kept};
+ghost use Rattle.reader.specs.Feeding.{Ended, Led, NextRefused, most_kept};
+ghost use Rattle.reader.specs.Working.{LineEnded};
 ghost use Rattle.reader.specs.Inputs.{LineTaken};
 
 use super::lines::LineReader;

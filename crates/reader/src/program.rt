@@ -2,7 +2,8 @@
 ghost use Rattle.std.specs.Prelude.{◌<◌, [], OnOk, length};
 ghost use Rattle.statement.specs.Promises.{Promises};
 ghost use Rattle.reader.specs.Feeding.{Led};
-ghost use Rattle.reader.specs.Promised.{Fed, FinishedWith, OneOutput, Printed, full_book};
+ghost use Rattle.reader.specs.Promised.{OneOutput, Printed, full_book};
+ghost use Rattle.reader.specs.Working.{Fed, FinishedWith};
 
 use super::input::InputReader;
 use super::listing::write_listing;
