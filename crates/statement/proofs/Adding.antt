@@ -1,7 +1,5 @@
 -- The lines of a run are added one after another, and those that bill nothing are left out. Assumes nothing.
-use Rattle.std.proofs.Common.{◌≡◌, ◌+◌, ◌<◌, ◌≤◌, ℕ, Bool, List, [], ◌∷◌, ◌++◌, map, filter, length, take, get_or, ◌-ℤ◌, slice_index, refl, sym, ap, ◌∙◌, append_assoc, append-nil, add-one}
-use Rattle.std.specs.List.{flat_map}
-use Rattle.std.proofs.lemmas.Grind.{flat_map-append}
+use Rattle.std.proofs.Common.{◌≡◌, ◌+◌, ◌<◌, ◌≤◌, ℕ, Bool, List, [], ◌∷◌, ◌++◌, map, filter, length, take, get_or, ◌-ℤ◌, slice_index, refl, sym, ap, ◌∙◌, append_assoc}
 use Rattle.std.proofs.lemmas.List.{get_or-map, take_all}
 use Rattle.std.proofs.lemmas.List.Elements.{filter-append, filter_more}
 use Rattle.rows.specs.declared.figures.Cents.{Cents}
@@ -9,9 +7,9 @@ use Rattle.charges.specs.declared.amounts.IntervalAmounts.{IntervalAmounts}
 use Rattle.charges.specs.declared.code.ChargeCode.{ChargeCode}
 use Rattle.charges.specs.declared.code.ChargeCode.TheVariants.{Cc6470, Cc6476}
 use Rattle.charges.specs.Codes.{column_under}
-use Rattle.charges.specs.Faults.{first_places}
 use Rattle.statement.specs.declared.line.Line.{Line}
 use Rattle.statement.specs.Lines.{line, cents_at, all_codes, is_billed, party_changes, parties_changes, balance_change, interval_changes, changes}
+use Rattle.statement.proofs.Places.{places_more}
 
 -- one more of a list is added, where it passes a test
 added_next : {X : Type 0} (p : X → Bool) (xs before so : List X) (i : ℕ) (d : X) → i < length xs → so ≡ before ++ filter p (take i xs)
@@ -23,11 +21,6 @@ added_next p xs before so i d inside is =
 added_behind : {X : Type 0} (p : X → Bool) (before so xs ys : List X) → so ≡ before ++ filter p xs → so ++ filter p ys ≡ before ++ filter p (xs ++ ys)
 added_behind p before so xs ys is =
     ap (λ l. l ++ filter p ys) is ∙ append_assoc before (filter p xs) (filter p ys) ∙ ap (λ l. before ++ l) (sym (filter-append p xs ys))
-
--- what there is of the first so many places, and of one more
-places_more : {X : Type 0} (f : ℕ → List X) (n : ℕ) → flat_map f (first_places (n + 1)) ≡ flat_map f (first_places n) ++ f n
-places_more f n =
-    ap (λ m. flat_map f (first_places m)) (add-one n) ∙ flat_map-append f (first_places n) (n ∷ []) ∙ ap (λ l. flat_map f (first_places n) ++ l) (append-nil (f n))
 
 module _ (run place : ℕ) (new earlier : IntervalAmounts) (i id : ℕ) where
   -- a party's line under the next code

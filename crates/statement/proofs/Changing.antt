@@ -17,14 +17,14 @@ use Rattle.statement.proofs.LineTotals.{part, total_of_one, total_of-append, tot
 
 -- each line is one of the parties' or account 0's
 module _ (P : Line → Type 0) where
-  all_of_each : {X : Type 0} (g : X → List Line) (xs : List X) → All (λ x. All P (g x)) xs → All P (flat_map g xs)
+  pub all_of_each : {X : Type 0} (g : X → List Line) (xs : List X) → All (λ x. All P (g x)) xs → All P (flat_map g xs)
   all_of_each g [] each = All-nil P
   all_of_each {X} g (x ∷ xs) each =
       let Q : X → Type 0 = λ x. All P (g x) in
       All-append P (g x) (flat_map g xs) (All-head Q x xs each) (all_of_each g xs (All-tail Q x xs each))
 
   module _ (run place : ℕ) (new earlier : IntervalAmounts) where
-    party_all : (i id : ℕ) → ((code : ChargeCode) (z : ℤ) → P (line run place id code z)) → All P (party_changes run place new earlier i id)
+    pub party_all : (i id : ℕ) → ((code : ChargeCode) (z : ℤ) → P (line run place id code z)) → All P (party_changes run place new earlier i id)
     unfolding party_changes
     party_all i id each =
         let g : ChargeCode → Line = λ code. line run place id code (cents_at (column_under code new) i -ℤ cents_at (column_under code earlier) i) in

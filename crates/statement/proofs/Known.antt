@@ -1,6 +1,6 @@
 -- The words of the proofs over lines and histories. Assumes nothing.
 use Rattle.std.proofs.Common.{◌≡◌, ◌≢◌, ℕ, ◌-◌, ◌<◌, ◌≤◌, ◌==◌, Bool, true, not, cond, ◌||◌, List, map, length, replicate, drop, ℤ, pos, ◌+ℤ◌, slice_index}
-use Rattle.std.specs.List.{All, list_any}
+use Rattle.std.specs.List.{All, AllPairs, list_any}
 use Rattle.sharing.specs.Laws.{total}
 use Rattle.deemed.specs.Ranges.{hour_length}
 use Rattle.records.specs.Ranges.{most_parties}
@@ -16,9 +16,10 @@ use Rattle.charges.specs.Faults.{first_places}
 use Rattle.charges.specs.Charged.{IntervalCharged, IntervalLaws, at_place}
 use Rattle.statement.specs.declared.line.Line.{Line}
 use Rattle.statement.specs.declared.statement.Statement.{Statement}
+use Rattle.statement.specs.Ranges.{most_lines, most_runs}
 use Rattle.statement.specs.Lines.{total_of, under, billed, come_to, cents_at, all_codes, is_surcharge, same_code}
 use Rattle.statement.specs.Statements.{ids}
-use Rattle.statement.specs.Promises.{Balances}
+use Rattle.statement.specs.Promises.{InTurn, Balances}
 use Rattle.statement.specs.Tallies.{Tallied}
 
 -- an account that lines may have: 0, or that of a party
@@ -48,6 +49,13 @@ pub record Agrees (lines : List Line) (ids : List ℕ) (place : ℕ) (x : Interv
 abbrev pub Behind : ℕ → IntervalAmounts → Type 0
 Behind n x = (code : ChargeCode) → (length (column_under code x) ≡ most_parties) × (drop n (column_under code x) ≡ replicate (most_parties - n) no_cents)
 
+-- a line as every run adds them, whatever its account
+pub record Formed (runs : ℕ) (l : Line) : Type 0 where
+  pub of_run : (1 ≤ l.run) × (l.run ≤ runs)
+  pub of_interval : (1 ≤ l.interval) × (l.interval ≤ hour_length)
+  pub of_0 : l.account ≡ 0 → l.code ≡ Cc6476
+  pub bills : l.cents.0 ≢ pos 0
+
 -- the lines come to amounts that some rule gives, and these are as the laws want them
 pub record Billed (b : Statement) : Type 0 where
   pub shares : ℤ → List ℕ → List ℤ
@@ -61,6 +69,11 @@ pub record Billed (b : Statement) : Type 0 where
 pub record Reached (b : Statement) : Type 0 where
   pub sound : Sound b.records
   pub accounts : All (λ l. known (ids b) l.account ≡ true) b.lines.rows
+  pub formed : All (Formed b.runs) b.lines.rows
+  pub in_turn : AllPairs InTurn b.lines.rows
+  pub fit : length b.lines.rows ≤ b.lines.most
+  pub bound : b.lines.most ≤ most_lines
+  pub counted : b.runs ≤ most_runs
   pub balances : Balances b
   -- what the lines of an interval come to balances
   pub surcharges : (place : ℕ) → place < hour_length → interval_total is_surcharge (length (ids b)) (come_to b.lines.rows (ids b) place) ≡ pos 0

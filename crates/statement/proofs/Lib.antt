@@ -3,6 +3,7 @@ pub mod Places
 pub mod LineTotals
 pub mod Changing
 pub mod NewLines
+pub mod Turns
 pub mod Columns
 pub mod IntervalTotals
 pub mod KnownIds

@@ -1,8 +1,9 @@
 -- Totals of numbers, one for each of the first so many places. Assumes nothing.
-use Rattle.std.proofs.Common.{◌≡◌, ◌≢◌, ℕ, ◌+◌, ◌<◌, ◌≤◌, zero, suc, List, [], ◌∷◌, ◌++◌, map, length, take, get_or, ℤ, pos, ◌+ℤ◌, ◌-ℤ◌, refl, ap, ◌∙◌, ⊎_elim, take-suc, arith}
-use Rattle.std.specs.List.{All}
+use Rattle.std.proofs.Common.{◌≡◌, ◌≢◌, ℕ, ◌+◌, ◌<◌, ◌≤◌, zero, suc, List, [], ◌∷◌, ◌++◌, map, length, take, get_or, ℤ, pos, ◌+ℤ◌, ◌-ℤ◌, refl, ap, ◌∙◌, ⊎_elim, take-suc, append-nil, add-one, arith}
+use Rattle.std.specs.List.{All, flat_map}
 use Rattle.std.proofs.lemmas.Bool.{cases_lt}
 use Rattle.std.proofs.lemmas.Int.{ints}
+use Rattle.std.proofs.lemmas.Grind.{flat_map-append}
 use Rattle.std.proofs.lemmas.List.{map-append}
 use Rattle.std.proofs.lemmas.List.Elements.{All-nil, All-push}
 use Rattle.sharing.specs.Laws.{total}
@@ -24,6 +25,11 @@ total_of_differences f g (x ∷ xs) =
 pub all_places : (P : ℕ → Type 0) (n : ℕ) → ((i : ℕ) → i < n → P i) → All P (first_places n)
 all_places P zero each = All-nil P
 all_places P (suc n) each = All-push P (first_places n) n (all_places P n (λ i below. each i (omega arith))) (each n (omega arith))
+
+-- what there is of the first so many places, and of one more
+pub places_more : {X : Type 0} (f : ℕ → List X) (n : ℕ) → flat_map f (first_places (n + 1)) ≡ flat_map f (first_places n) ++ f n
+places_more f n =
+    ap (λ m. flat_map f (first_places m)) (add-one n) ∙ flat_map-append f (first_places n) (n ∷ []) ∙ ap (λ l. flat_map f (first_places n) ++ l) (append-nil (f n))
 
 abbrev pub over : (ℕ → ℤ) → ℕ → ℤ
 over f n = total (map f (first_places n))

@@ -1,10 +1,12 @@
 -- What holds along every history (Reaching) gives the promises. Of the charges it uses `IntervalLaws`, `EnergyLaws` and which columns an
 -- interval has (`IntervalCharged`). No formula, rule or rounding is opened. Assumes nothing.
-use Rattle.std.proofs.Common.{◌≡◌, ℕ, ◌<◌, ◌≤◌, true, false, List, [], ◌∷◌, ◌++◌, map, length, get_or, drop, ℤ, pos, refl, sym, ap, subst, ◌∙◌, arith, sum}
-use Rattle.std.specs.List.{All}
+use Rattle.std.proofs.Common.{◌≡◌, ◌≢◌, ℕ, ◌<◌, ◌≤◌, true, false, is_some, List, [], ◌∷◌, ◌++◌, map, length, get_or, drop, ℤ, pos, refl, sym, ap, subst, ◌∙◌, ◌==◌, ⊎_elim, arith, sum}
+use Rattle.std.specs.List.{All, list_any}
+use Rattle.std.proofs.lemmas.Bool.{cases_Bool}
 use Rattle.std.proofs.lemmas.List.{length-map}
 use Rattle.std.proofs.lemmas.List.Elements.{All-nil, All-cons, All-head, All-tail}
 use Rattle.sharing.specs.Laws.{total}
+use Rattle.tables.specs.Tables as tables
 use Rattle.deemed.specs.Ranges.{hour_length}
 use Rattle.deemed.specs.Deemed.{NearPart}
 use Rattle.rows.specs.declared.figures.Cents.{Cents}
@@ -13,6 +15,7 @@ use Rattle.rows.specs.declared.party.Party.{Party}
 use Rattle.rows.specs.Kinds.{is_ciso}
 use Rattle.formulas.specs.Surcharge.{area_pool}
 use Rattle.records.specs.Ranges.{most_parties}
+use Rattle.records.specs.Hours.{party_id}
 use Rattle.charges.specs.declared.amounts.IntervalAmounts.{IntervalAmounts}
 use Rattle.charges.specs.declared.code.ChargeCode.{ChargeCode}
 use Rattle.charges.specs.declared.code.ChargeCode.TheVariants.{Cc6470, Cc6474, Cc6475, Cc6476, Cc6477}
@@ -23,8 +26,8 @@ use Rattle.charges.specs.Charged.{at_place, offset_shares_of}
 use Rattle.statement.specs.declared.statement.Statement.{Statement}
 use Rattle.statement.specs.Lines.{cents_at, billed, come_to, same_code}
 use Rattle.statement.specs.Statements.{ids}
-use Rattle.statement.specs.Promises.{BilledInFull, PoolsPaid, Promises, HistoriesKeepPromises}
-use Rattle.statement.proofs.Known.{Billed, Reached}
+use Rattle.statement.specs.Promises.{SoundLines, BilledInFull, PoolsPaid, Promises, HistoriesKeepPromises}
+use Rattle.statement.proofs.Known.{known, Billed, Reached}
 use Rattle.statement.proofs.Columns.{column_of_tally, entries_of_column, cents_of_column, charged_behind, agrees_of, come_to_agrees}
 use Rattle.statement.proofs.IntervalTotals.{same_total, offset_total}
 use Rattle.statement.proofs.Reaching.{reached}
@@ -116,12 +119,40 @@ module _ (b : Statement) (known : Reached b) (settled : b.settled ≡ true) (pla
             let a = get_or areas k d in
             let none = weim_shares of_billed.shares (offset_pool b.records.resources.rows parties place) parties place a weim in
             same_mapped (party_billed Cc6477) (λ _. pos 0) (parties_in a.id parties) (sym (cents_billed Cc6477 a.id) ∙ (of_billed.charged place inside).cc_6477 k d lt ∙ none);
+        account_0 = sym tallied.balance ∙ (of_billed.charged place inside).balance_is;
         offset_parts = λ k d lt ciso. let a = get_or areas k d in at_parties (Near (offset_pool b.records.resources.rows parties place) a) Cc6477 a.id (laws.offset_near k d lt ciso);
       }
+
+found_any : (rows : List Party) (account : ℕ) → is_some (tables.found party_id account rows) ≡ list_any (λ id. id == account) (map party_id rows)
+found_any [] account = refl
+found_any (p ∷ ps) account = ⊎_elim (λ own. rw own refl) (λ other. rw other (found_any ps account)) (cases_Bool (p.id == account))
+
+-- a known account that is not 0 is a party's
+of_party : (rows : List Party) (account : ℕ) → known (map party_id rows) account ≡ true → account ≢ 0 → is_some (tables.found party_id account rows) ≡ true
+of_party rows account e some = rw (found_any rows account) (grind (arith, e, some))
+
+sound_lines : (b : Statement) → Reached b → SoundLines b
+sound_lines b known = record {
+  each = λ k d inside.
+      let l = get_or b.lines.rows k d in
+      let formed = known.formed k d inside in
+      record {
+        of_run = formed.of_run;
+        of_interval = formed.of_interval;
+        of_party = of_party b.records.parties.rows l.account (known.accounts k d inside);
+        of_0 = formed.of_0;
+        bills = formed.bills;
+      };
+  in_turn = known.in_turn;
+  fit = known.fit;
+  bound = known.bound;
+  counted = known.counted;
+}
 
 pub promised : (b : Statement) → Reached b → Promises b
 promised b known = record {
   sound = known.sound;
+  lines = sound_lines b known;
   balances = known.balances;
   billed = in_full b known;
   pools = paid b known;

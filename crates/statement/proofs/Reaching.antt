@@ -1,15 +1,17 @@
 -- What holds along every history, call by call. It uses of the records that empty ones are sound and that calls keep them so and only
 -- add ids; of the charges what an hour comes to by a rule (`HourCharged`) and, of any lawful rule, `hour_laws` and `renewed_laws`. No
 -- formula, rule or rounding is opened. Assumes nothing.
-use Rattle.std.proofs.Common.{◌≡◌, ◌≢◌, ℕ, ◌+◌, ◌<◌, ◌≤◌, Bool, true, not, List, [], ◌∷◌, ◌++◌, map, length, get_or, min, ℤ, pos, slice_index, None, Result, refl, sym, ap, subst, ◌∙◌, ⊎_elim, arith, true≢false}
-use Rattle.std.proofs.lemmas.Bool.{cases_Bool, cases_order}
-use Rattle.std.proofs.lemmas.List.{length-map, get_or-map}
+use Rattle.std.proofs.Common.{◌≡◌, ◌≢◌, ℕ, ◌+◌, ◌<◌, ◌≤◌, Bool, true, not, List, [], ◌∷◌, ◌++◌, map, length, get_or, min, ℤ, pos, slice_index, None, Result, refl, sym, ap, subst, ◌∙◌, ⊎_elim, ◌==◌, eq-eqb, arith, true≢false}
+use Rattle.std.proofs.lemmas.Bool.{cases_Bool, cases_lt, cases_order}
+use Rattle.std.proofs.lemmas.Bool.Decides.{nat_tests}
+use Rattle.std.proofs.lemmas.List.{length-append, length-map, get_or-map}
 use Rattle.std.proofs.lemmas.List.Elements.{All-nil, All-append, All-weaker}
 use Rattle.sharing.specs.Laws.{Lawful}
 use Rattle.tables.specs.declared.refusal.Refusal.{Refusal}
 use Rattle.tables.specs.Ranges.{in_range, is_id}
 use Rattle.tables.specs.Keyed.{Keyed}
 use Rattle.tables.specs.Tables as tables
+use Rattle.tables.specs.Tables.{has_room_for}
 use Rattle.tables.specs.Refusals.{Fit, first_fit, left, refused_as}
 use Rattle.tables.proofs.Fits.{left_either}
 use Rattle.tables.proofs.Firsts.{first_fit-neither, first_fit-none_told}
@@ -34,14 +36,17 @@ use Rattle.charges.proofs.Hours.{hour_laws, renewed_laws}
 use Rattle.statement.specs.declared.line.Line.{Line}
 use Rattle.statement.specs.declared.run.Run.{Run}
 use Rattle.statement.specs.declared.statement.Statement.{Statement}
+use Rattle.statement.specs.Ranges.{most_runs}
 use Rattle.statement.specs.Lines.{is_surcharge, same_code, surcharge_in, other_in, come_to, new_lines, total_of, under}
-use Rattle.statement.specs.Statements.{opened, ids, taken, with_records, with_run, settle_reasons, reasons_before_work, Settled}
+use Rattle.statement.specs.Statements.{opened, ids, taken, with_records, with_run, added, settle_reasons, reasons_before_work, Settled}
 use Rattle.statement.specs.Histories.{History, opening, call, settle}
-use Rattle.statement.proofs.Known.{known, Apart, Reached, Behind, interval_total}
+use Rattle.statement.specs.Promises.{InTurn}
+use Rattle.statement.proofs.Known.{known, Apart, Formed, Reached, Behind, interval_total}
 use Rattle.statement.proofs.LineTotals.{total_of-nil}
 use Rattle.statement.proofs.KnownIds.{still_known, unbilled}
 use Rattle.statement.proofs.AfterRun.{total_after, all_after, runs_balance}
 use Rattle.statement.proofs.NewLines.{agrees_after, accounts_known}
+use Rattle.statement.proofs.Turns.{pairs-append, new_in_turn, new_formed, still_formed, in_turn_after}
 use Rattle.statement.proofs.Columns.{charged_behind, tallied_of}
 use Rattle.statement.proofs.IntervalTotals.{surcharge_total, other_total, grown_total}
 use Rattle.statement.proofs.Renewed.{sound_renewed}
@@ -102,6 +107,11 @@ pub reached_opened : (areas parties resources lines : ℕ) → Reached (opened a
 reached_opened areas parties resources lines = record {
   sound = sound_opened areas parties resources;
   accounts = All-nil (λ l. known [] l.account ≡ true);
+  formed = All-nil (Formed 0);
+  in_turn = λ i j d less inside. absurd (omega arith);
+  fit = omega arith;
+  bound = omega arith;
+  counted = omega arith;
   balances = record { surcharges = λ run interval. total_of-nil (surcharge_in run interval); others = λ run interval. total_of-nil (other_in run interval) };
   surcharges = λ place inside. empty_total is_surcharge place;
   others = λ place inside. empty_total (λ c. not (is_surcharge c)) place;
@@ -125,6 +135,11 @@ grown b h sound grows reached =
       sound = sound;
       accounts = All-weaker (λ l. known (ids b) l.account ≡ true) (λ l. known (ids (with_records h b)) l.account ≡ true)
           (λ l e. rw are (still_known (ids b) more apart l.account e)) b.lines.rows reached.accounts;
+      formed = reached.formed;
+      in_turn = reached.in_turn;
+      fit = reached.fit;
+      bound = reached.bound;
+      counted = reached.counted;
       balances = record { surcharges = reached.balances.surcharges; others = reached.balances.others };
       surcharges = λ place inside. same is_surcharge place ∙ reached.surcharges place inside;
       others = λ place inside. same (λ c. not (is_surcharge c)) place ∙ reached.others place inside;
@@ -145,11 +160,12 @@ reached_taken c b reached =
 -- an accepted settle
 pub reached_run : {shares : ℤ → List ℕ → List ℤ} → Lawful shares → (b : Statement) → Reached b → (a : HourAmounts)
     → first_fit (hour_faults shares b.records.areas.rows b.records.parties.rows b.records.resources.rows) ≡ None → HourCharged shares b.records a
-    → Reached (with_run shares a b)
-reached_run {shares} lawful b reached a unrefused charged =
+    → b.runs ≢ most_runs → has_room_for (added a b) b.lines ≡ true → Reached (with_run shares a b)
+reached_run {shares} lawful b reached a unrefused charged run_left room =
     let lines : List Line = b.lines.rows in
     let new : List Line = new_lines (b.runs + 1) lines (ids b) a in
     let apart : Apart (ids b) = apart_ids b reached.sound in
+    let formed = new_formed b.runs lines (ids b) a apart in
     let laws : HourLaws b.records (renewed shares b.records) a = hour_laws lawful b.records reached.sound unrefused a charged in
     let long : length (ids b) ≡ length b.records.parties.rows = length-map b.records.parties.rows party_id in
     let few : length b.records.parties.rows ≤ most_parties = let few = apart.few in omega arith in
@@ -162,6 +178,11 @@ reached_run {shares} lawful b reached a unrefused charged =
     record {
       sound = sound_renewed lawful b.records reached.sound;
       accounts = All-append (λ l. known (ids b) l.account ≡ true) lines new reached.accounts (accounts_known (b.runs + 1) lines (ids b) a);
+      formed = All-append (Formed (b.runs + 1)) lines new (All-weaker (Formed b.runs) (Formed (b.runs + 1)) (still_formed b.runs) lines reached.formed) formed;
+      in_turn = pairs-append InTurn lines new reached.in_turn (new_in_turn b.runs lines (ids b) a apart) (in_turn_after b.runs lines (ids b) a reached.formed);
+      fit = let long = length-append lines new in grind (arith, nat_tests, room, long);
+      bound = reached.bound;
+      counted = ⊎_elim (λ less. omega arith) (λ last. absurd (run_left (let counted = reached.counted in omega arith))) (cases_lt b.runs most_runs);
       balances = record {
         surcharges = runs_balance b.runs lines (ids b) a apart is_surcharge surcharges reached.surcharges reached.balances.surcharges;
         others = runs_balance b.runs lines (ids b) a apart (λ c. not (is_surcharge c)) others reached.others reached.balances.others;
@@ -190,7 +211,9 @@ reached_settled {shares} lawful before after r reached settled =
     let faults : List (Fit ChargeFault) = hour_faults shares h.areas.rows h.parties.rows h.resources.rows in
     let both = first_fit-neither (reasons_before_work shares before) _ none in
     let told = first_fit-neither (_ ∷ []) (map (refused_as refusal_of) faults) both.0 in
-    reached_run lawful before reached settled.amounts (first_fit-none_told refusal_of faults told.1) (settled.charged both.0))
+    reached_run lawful before reached settled.amounts (first_fit-none_told refusal_of faults told.1) (settled.charged both.0)
+    (λ last. let e : (before.runs == most_runs) ≡ true = eq-eqb before.runs most_runs last in absurd (let no = rw e at told.0 in cc))
+    (grind (arith, both.1)))
     reached)
 
 pub reached : (b : Statement) → History b → Reached b
