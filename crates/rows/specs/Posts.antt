@@ -1,5 +1,5 @@
 -- Which posts are inside their values, and the records that these make. Assumes nothing.
-use Rattle.std.specs.Prelude.{Bool, ◌&&◌, unsigned_abs}
+use Rattle.std.specs.Prelude.{◌≡◌, Bool, true, ◌&&◌, unsigned_abs}
 use Rattle.tables.specs.Ranges.{is_flag, flag}
 use Rattle.deemed.specs.declared.tag.Tag.{Tag}
 use Rattle.deemed.specs.Ranges.{most_kw, most_telemetry}
@@ -69,3 +69,7 @@ transfer_fits p = is_volume p.to && is_volume p.base_to && is_volume p.from && i
 
 unfoldable pub transfer_record : TransferPost → Transfer
 transfer_record p = record { to = as_volume p.to; base_to = as_volume p.base_to; from = as_volume p.from; base_from = as_volume p.base_from }
+
+-- a post of nothing is inside its values, and makes the record that stands where nothing was posted
+abbrev pub MakesUnposted : {P R : Type 0} → (P → Type 0) → (P → Bool) → (P → R) → R → Type 0
+MakesUnposted of_nothing fits record_of unposted = (p : _) → of_nothing p → (fits p ≡ true) × (record_of p ≡ unposted)

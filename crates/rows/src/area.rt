@@ -1,10 +1,12 @@
 // An area, with its election of assistance energy transfers, its sufficiency tests and its transfers.
 ghost use Rattle.std.specs.Prelude.{◌≡◌};
 ghost use Rattle.rows.specs.Rows.{no_election, no_test, no_transfer, new_area};
+ghost use Rattle.rows.specs.Posts.{MakesUnposted, election_fits, election_record, test_fits, test_record, transfer_fits, transfer_record};
 ghost use Rattle.rows.specs.Posted.{with_election, with_test, with_transfer};
 
 use super::figures::{BidCap, Volume};
 use super::kinds::AreaKind;
+use super::posts::{ElectionPost, TestPost, TransferPost};
 use super::slot::{Interval, QUARTERS, Quarter};
 use deemed::INTERVALS;
 use tables::HasId;
@@ -82,10 +84,13 @@ impl Transfer {
 }
 
 impl Area {
-    // An area as it is entered, for which nothing is posted yet.
+    // An area as it is entered, for which nothing is posted yet: its records are those that posts of nothing make.
     #[tactic(auto, unfolding(crate::specs::Rows::no_tests, crate::specs::Rows::no_transfers))]
     pub fn new(id: u16, kind: AreaKind) -> Area
-        ensures { result ≡ new_area id kind }
+        ensures row { result ≡ new_area id kind }
+        ensures election { MakesUnposted ⟦<ElectionPost as Default>⟧.is_default election_fits election_record no_election }
+        ensures test { MakesUnposted ⟦<TestPost as Default>⟧.is_default test_fits test_record no_test }
+        ensures transfer { MakesUnposted ⟦<TransferPost as Default>⟧.is_default transfer_fits transfer_record no_transfer }
     {
         Area {
             id,

@@ -1,12 +1,15 @@
 // A resource, with the energy, the tag and the deemed energy of each of its intervals.
 ghost use Rattle.std.specs.Prelude.{◌≡◌, length};
 ghost use Rattle.deemed.specs.Ranges.{hour_length};
+ghost use Rattle.deemed.specs.Tags.{no_tag};
 ghost use Rattle.rows.specs.Rows.{no_energy, new_resource};
+ghost use Rattle.rows.specs.Posts.{MakesUnposted, energy_fits, energy_record, tag_fits, tag_record};
 ghost use Rattle.rows.specs.Posted.{with_energy, with_tag, with_energies};
 
 use super::dispatch::DispatchType;
 use super::figures::{DeemedEnergy, Energy, Price};
 use super::kinds::ResourceKind;
+use super::posts::{EnergyPost, TagPost};
 use super::slot::Interval;
 use deemed::{INTERVALS, Tag};
 use tables::HasId;
@@ -67,10 +70,12 @@ impl EnergyRecord {
 }
 
 impl Resource {
-    // A resource as it is entered, for which nothing is posted yet.
+    // A resource as it is entered, for which nothing is posted yet: its records are those that posts of nothing make.
     #[tactic(auto, unfolding(crate::specs::Rows::no_energies, crate::specs::Rows::no_tags, crate::specs::Rows::nothing_deemed))]
     pub fn new(id: u16, owner: u16, kind: ResourceKind, net: bool, exempt: bool) -> Resource
-        ensures { result ≡ new_resource id owner kind net exempt }
+        ensures row { result ≡ new_resource id owner kind net exempt }
+        ensures energy { MakesUnposted ⟦<EnergyPost as Default>⟧.is_default energy_fits energy_record no_energy }
+        ensures tag { MakesUnposted ⟦<TagPost as Default>⟧.is_default tag_fits tag_record no_tag }
     {
         Resource {
             id,
