@@ -59,7 +59,8 @@ impl TieHour {
 
     // An hour with these tags, in which nothing is deemed delivered yet.
     pub fn new(tags: [Tag; INTERVALS]) -> TieHour
-        ensures { Opened tags result }
+        ensures hour { Opened tags result }
+        ensures length { INTERVALS ≡ hour_length }
     {
         TieHour {
             intervals: tags.map(|tag| Interval {

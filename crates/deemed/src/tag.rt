@@ -38,7 +38,8 @@ impl Tag {
 
     // A tag with these figures, or nothing where one is outside its range.
     pub fn new(kw: Units, telemetry: TelemetrySteps, curtailed: bool) -> Option<Tag>
-        ensures { Tagged kw telemetry curtailed result }
+        ensures tag { Tagged kw telemetry curtailed result }
+        ensures limits { (MOST_KW ≡ most_kw) × (MOST_TELEMETRY ≡ most_telemetry) }
     {
         if kw.0.unsigned_abs() > MOST_KW || telemetry.0 > MOST_TELEMETRY {
             return None;

@@ -2,7 +2,7 @@
 ghost use Rattle.std.specs.Prelude.{◌≡◌, ◌≤◌, ◌*ℤ◌, unsigned_abs};
 ghost use Rattle.rows.specs.Ranges.{most_price};
 ghost use Rattle.formulas.specs.Ranges.{most_settled, most_product};
-ghost use Rattle.formulas.specs.Rounding.{RoundsTo, to_cents};
+ghost use Rattle.formulas.specs.Rounding.{RoundsTo, cent, to_cents};
 
 use deemed::Units;
 use rows::{Cents, PriceSteps};
@@ -31,6 +31,7 @@ impl Products {
     pub fn to_cents(self) -> Cents
         ensures value { result.0 ≡ to_cents self.0 }
         ensures nearest { RoundsTo self.0 result.0 }
+        ensures cent { CENT ≡ cent }
     {
         let cents = ((self.0.unsigned_abs() + CENT / 2) / CENT) as i64;
         Cents(if self.0 < 0 { -cents } else { cents })

@@ -2,7 +2,7 @@
 ghost use Rattle.std.specs.Prelude.{◌≡◌, Some, bytes_eq, option_map};
 ghost use Rattle.tables.specs.Refusals.{Tested};
 ghost use Rattle.tables.specs.declared.refusal.Reason.TheVariants.{OutsideValues};
-ghost use Rattle.rows.specs.Dispatch.{dispatch_class, dispatch_type, dispatch_word, type_word, dispatch_fits, as_dispatch};
+ghost use Rattle.rows.specs.Dispatch.{dispatch_class, dispatch_type, dispatch_types, dispatch_word, type_word, dispatch_fits, as_dispatch};
 
 use tables::Reason;
 
@@ -130,7 +130,8 @@ impl DispatchType {
 
     // The type that a word names.
     pub fn named(word: &[u8]) -> Option<DispatchType>
-        ensures { result ≡ dispatch_type word.now }
+        ensures kind { result ≡ dispatch_type word.now }
+        ensures all { DispatchType.ALL ≡ dispatch_types }
     {
         DispatchType::ALL
             .iter()

@@ -89,12 +89,14 @@ impl Price {
     ghost use Rattle.std.specs.Prelude.{◌≡◌, pos};
     ghost use Rattle.tables.specs.Refusals.{Tested};
     ghost use Rattle.tables.specs.declared.refusal.Reason.TheVariants.{OutsideValues};
+    ghost use Rattle.rows.specs.Ranges.{most_price};
     ghost use Rattle.rows.specs.Figures.{is_price, as_price};
 
     // The price of so many steps.
     #[tactic(auto, unfolding(crate::specs::Figures::as_price, crate::specs::Figures::either_way, tables::specs::Ranges::in_range))]
     pub fn of(steps: i64) -> Result<Price, Reason>
-        ensures { Tested (is_price steps) (as_price steps) OutsideValues result }
+        ensures tested { Tested (is_price steps) (as_price steps) OutsideValues result }
+        ensures limit { MOST_PRICE ≡ pos most_price }
     {
         let steps = ranged(-MOST_PRICE, MOST_PRICE, steps, Reason::OutsideValues)?;
         Ok(Price {
@@ -143,12 +145,14 @@ impl Energy {
     ghost use Rattle.std.specs.Prelude.{◌≡◌, pos};
     ghost use Rattle.tables.specs.Refusals.{Tested};
     ghost use Rattle.tables.specs.declared.refusal.Reason.TheVariants.{OutsideValues};
+    ghost use Rattle.rows.specs.Ranges.{most_energy};
     ghost use Rattle.rows.specs.Figures.{is_energy, as_energy};
 
     // The energy of so many units.
     #[tactic(auto, unfolding(crate::specs::Figures::as_energy, crate::specs::Figures::either_way, tables::specs::Ranges::in_range))]
     pub fn of(units: i64) -> Result<Energy, Reason>
-        ensures { Tested (is_energy units) (as_energy units) OutsideValues result }
+        ensures tested { Tested (is_energy units) (as_energy units) OutsideValues result }
+        ensures limit { MOST_ENERGY ≡ pos most_energy }
     {
         let units = ranged(-MOST_ENERGY, MOST_ENERGY, units, Reason::OutsideValues)?;
         Ok(Energy {
@@ -193,12 +197,14 @@ impl DeemedEnergy {
     ghost use Rattle.std.specs.Prelude.{◌≡◌, pos};
     ghost use Rattle.tables.specs.Refusals.{Tested};
     ghost use Rattle.tables.specs.declared.refusal.Reason.TheVariants.{OutsideValues};
+    ghost use Rattle.rows.specs.Ranges.{most_deemed};
     ghost use Rattle.rows.specs.Figures.{is_deemed, as_deemed};
 
     // The deemed energy of so many units.
     #[tactic(auto, unfolding(crate::specs::Figures::as_deemed, crate::specs::Figures::either_way, tables::specs::Ranges::in_range))]
     pub fn of(units: i64) -> Result<DeemedEnergy, Reason>
-        ensures { Tested (is_deemed units) (as_deemed units) OutsideValues result }
+        ensures tested { Tested (is_deemed units) (as_deemed units) OutsideValues result }
+        ensures limit { MOST_DEEMED ≡ pos most_deemed }
     {
         let units = ranged(-MOST_DEEMED, MOST_DEEMED, units, Reason::OutsideValues)?;
         Ok(DeemedEnergy {
@@ -218,12 +224,14 @@ impl GivenAmount {
     ghost use Rattle.std.specs.Prelude.{◌≡◌, pos};
     ghost use Rattle.tables.specs.Refusals.{Tested};
     ghost use Rattle.tables.specs.declared.refusal.Reason.TheVariants.{OutsideValues};
+    ghost use Rattle.rows.specs.Ranges.{most_given};
     ghost use Rattle.rows.specs.Figures.{is_given, as_given};
 
     // The amount of so many cents.
     #[tactic(auto, unfolding(crate::specs::Figures::as_given, crate::specs::Figures::either_way, tables::specs::Ranges::in_range))]
     pub fn of(cents: i64) -> Result<GivenAmount, Reason>
-        ensures { Tested (is_given cents) (as_given cents) OutsideValues result }
+        ensures tested { Tested (is_given cents) (as_given cents) OutsideValues result }
+        ensures limit { MOST_GIVEN ≡ pos most_given }
     {
         let cents = ranged(-MOST_GIVEN, MOST_GIVEN, cents, Reason::OutsideValues)?;
         Ok(GivenAmount {

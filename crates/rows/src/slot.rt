@@ -37,11 +37,13 @@ impl<const COUNT: usize> Slot<COUNT> {
 
 impl Slot<INTERVALS> {
     ghost use Rattle.std.specs.Prelude.{◌≡◌};
+    ghost use Rattle.rows.specs.Ranges.{quarters};
     ghost use Rattle.rows.specs.Slots.{quarter_of};
 
     // The quarter in which the interval lies.
     pub fn quarter(self) -> Quarter
-        ensures { result.place ≡ quarter_of self.place }
+        ensures place { result.place ≡ quarter_of self.place }
+        ensures count { QUARTERS ≡ quarters }
     {
         Slot {
             place: self.place / (INTERVALS / QUARTERS),

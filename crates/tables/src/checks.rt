@@ -1,7 +1,7 @@
 // Tests of the numbers that a call is given.
-ghost use Rattle.std.specs.Prelude.{◌≤ℤ◌, IfOk};
+ghost use Rattle.std.specs.Prelude.{◌≡◌, ◌≤ℤ◌, IfOk, pos};
 ghost use Rattle.tables.specs.Refusals.{Tested};
-ghost use Rattle.tables.specs.Ranges.{in_range, is_id, as_id, is_flag, flag};
+ghost use Rattle.tables.specs.Ranges.{last_id, in_range, is_id, as_id, is_flag, flag};
 ghost use Rattle.tables.specs.declared.refusal.Reason.TheVariants.{OutsideSpan, OutsideValues};
 
 use super::refusal::Reason;
@@ -23,7 +23,8 @@ pub fn ranged(low: i64, high: i64, number: i64, reason: Reason) -> Result<i64, R
 
 // The number as an id.
 pub fn id_of(number: i64) -> Result<u16, Reason>
-    ensures { Tested (is_id number) (as_id number) OutsideSpan result }
+    ensures tested { Tested (is_id number) (as_id number) OutsideSpan result }
+    ensures last { LAST_ID ≡ pos last_id }
 {
     Ok(ranged(1, LAST_ID, number, Reason::OutsideSpan)? as u16)
 }

@@ -1,6 +1,6 @@
 // The numbers that words write.
 ghost use Rattle.std.specs.Prelude.{◌≡◌};
-ghost use Rattle.words.specs.Numbers.{NumbersReadBack, natural_of, number_of};
+ghost use Rattle.words.specs.Numbers.{NumbersReadBack, most_digits, natural_of, number_of};
 ghost use Rattle.std.specs.Option.{option_map};
 ghost use Rattle.std.specs.Prelude.{pos};
 
@@ -26,6 +26,7 @@ fn natural(text: &[u8]) -> Option<i64>
 pub fn number(text: &[u8]) -> Option<i64>
     ensures value { result ≡ number_of text.now }
     ensures reads_back { NumbersReadBack }
+    ensures limit { MOST_DIGITS ≡ most_digits }
 {
     match text {
         [b'-', digits @ ..] => natural(digits).map(|n| -n),
