@@ -1,9 +1,13 @@
 -- The codes under which a party is charged. Assumes nothing.
-use Rattle.std.specs.Prelude.{ℕ, List}
+use Rattle.std.specs.Prelude.{ℕ, List, [], ◌∷◌}
 use Rattle.rows.specs.declared.figures.Cents.{Cents}
 use Rattle.charges.specs.declared.amounts.IntervalAmounts.{IntervalAmounts}
 use Rattle.charges.specs.declared.code.ChargeCode.{ChargeCode}
 use Rattle.charges.specs.declared.code.ChargeCode.TheVariants.{Cc6470, Cc6474, Cc6475, Cc6476, Cc6477}
+
+-- all of them, rising
+abbrev pub all_codes : List ChargeCode
+all_codes = Cc6470 ∷ Cc6474 ∷ Cc6475 ∷ Cc6476 ∷ Cc6477 ∷ []
 
 abbrev pub charge_code_number : ChargeCode → ℕ
 charge_code_number Cc6470 = 6470

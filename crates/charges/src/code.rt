@@ -1,6 +1,6 @@
 // The codes under which a party is charged.
 ghost use Rattle.std.specs.Prelude.{◌≡◌};
-ghost use Rattle.charges.specs.Codes.{charge_code_number, column_under};
+ghost use Rattle.charges.specs.Codes.{all_codes, charge_code_number, column_under};
 
 use super::amounts::IntervalAmounts;
 use records::MOST_PARTIES;
@@ -26,7 +26,8 @@ impl ChargeCode {
     ];
 
     pub fn number(self) -> u16
-        ensures { result ≡ charge_code_number self }
+        ensures number { result ≡ charge_code_number self }
+        ensures all { Self.ALL ≡ all_codes }
     {
         match self {
             ChargeCode::Cc6470 => 6470,

@@ -6,9 +6,9 @@ use Rattle.rows.specs.declared.figures.Cents.{Cents}
 use Rattle.charges.specs.declared.amounts.IntervalAmounts.{IntervalAmounts}
 use Rattle.charges.specs.declared.code.ChargeCode.{ChargeCode}
 use Rattle.charges.specs.declared.code.ChargeCode.TheVariants.{Cc6470, Cc6476}
-use Rattle.charges.specs.Codes.{column_under}
+use Rattle.charges.specs.Codes.{all_codes, column_under}
 use Rattle.statement.specs.declared.line.Line.{Line}
-use Rattle.statement.specs.Lines.{line, cents_at, all_codes, is_billed, party_changes, parties_changes, balance_change, interval_changes, changes}
+use Rattle.statement.specs.Lines.{line, cents_at, is_billed, party_changes, parties_changes, balance_change, interval_changes, changes}
 use Rattle.statement.proofs.Places.{places_more}
 
 -- one more of a list is added, where it passes a test

@@ -6,11 +6,11 @@ use Rattle.std.proofs.lemmas.List.Elements.{All-nil, All-append, All-push, All-h
 use Rattle.charges.specs.declared.amounts.IntervalAmounts.{IntervalAmounts}
 use Rattle.charges.specs.declared.code.ChargeCode.{ChargeCode}
 use Rattle.charges.specs.declared.code.ChargeCode.TheVariants.{Cc6470, Cc6474, Cc6475, Cc6476, Cc6477}
-use Rattle.charges.specs.Codes.{column_under}
+use Rattle.charges.specs.Codes.{all_codes, column_under}
 use Rattle.charges.specs.Faults.{first_places}
 use Rattle.charges.proofs.Totals.{total_same}
 use Rattle.statement.specs.declared.line.Line.{Line}
-use Rattle.statement.specs.Lines.{total_of, all_codes, cents_at, line, same_code, party_changes, parties_changes, interval_changes, balance_change, changes}
+use Rattle.statement.specs.Lines.{total_of, cents_at, line, same_code, party_changes, parties_changes, interval_changes, balance_change, changes}
 use Rattle.statement.proofs.Known.{party_total, interval_total}
 use Rattle.statement.proofs.Places.{total_of_differences, all_places, over, over_same, over_none, over_one}
 use Rattle.statement.proofs.LineTotals.{part, total_of_one, total_of-append, total_of-flat_map, total_of-map, total_of_none}

@@ -9,11 +9,11 @@ use Rattle.charges.specs.declared.amounts.IntervalAmounts.{IntervalAmounts}
 use Rattle.charges.specs.declared.code.ChargeCode.{ChargeCode}
 use Rattle.charges.specs.declared.code.ChargeCode.TheVariants.{Cc6470, Cc6474, Cc6475, Cc6476, Cc6477}
 use Rattle.charges.specs.Amounts.{cents, no_cents}
-use Rattle.charges.specs.Codes.{column_under}
+use Rattle.charges.specs.Codes.{all_codes, column_under}
 use Rattle.charges.specs.Faults.{first_places}
 use Rattle.charges.proofs.Totals.{total_of_sums, total_at_front}
 use Rattle.statement.specs.declared.line.Line.{Line}
-use Rattle.statement.specs.Lines.{cents_at, tally, come_to, billed, is_surcharge, same_code, all_codes}
+use Rattle.statement.specs.Lines.{cents_at, tally, come_to, billed, is_surcharge, same_code}
 use Rattle.statement.specs.Tallies.{Tallied}
 use Rattle.statement.proofs.Known.{interval_total, party_total, Agrees, Behind}
 use Rattle.statement.proofs.Places.{over_same, over_further, front_total}

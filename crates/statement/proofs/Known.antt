@@ -10,14 +10,14 @@ use Rattle.charges.specs.declared.amounts.HourAmounts.{HourAmounts}
 use Rattle.charges.specs.declared.code.ChargeCode.{ChargeCode}
 use Rattle.charges.specs.declared.code.ChargeCode.TheVariants.{Cc6476, Cc6477}
 use Rattle.charges.specs.Amounts.{no_cents}
-use Rattle.charges.specs.Codes.{column_under}
+use Rattle.charges.specs.Codes.{all_codes, column_under}
 use Rattle.charges.specs.Energies.{EnergyLaws}
 use Rattle.charges.specs.Faults.{first_places}
 use Rattle.charges.specs.Charged.{IntervalCharged, IntervalLaws, at_place}
 use Rattle.statement.specs.declared.line.Line.{Line}
 use Rattle.statement.specs.declared.statement.Statement.{Statement}
 use Rattle.statement.specs.Ranges.{most_lines, most_runs}
-use Rattle.statement.specs.Lines.{total_of, under, billed, come_to, cents_at, all_codes, is_surcharge, same_code}
+use Rattle.statement.specs.Lines.{total_of, under, billed, come_to, cents_at, is_surcharge, same_code}
 use Rattle.statement.specs.Statements.{ids}
 use Rattle.statement.specs.Promises.{InTurn, Balances}
 use Rattle.statement.specs.Tallies.{Tallied}

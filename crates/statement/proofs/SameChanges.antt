@@ -7,7 +7,8 @@ use Rattle.charges.specs.declared.code.ChargeCode.TheVariants.{Cc6476}
 use Rattle.charges.specs.Faults.{first_places}
 use Rattle.charges.proofs.Determined.{Alike}
 use Rattle.statement.specs.declared.line.Line.{Line}
-use Rattle.statement.specs.Lines.{changes, interval_changes, parties_changes, party_changes, line, cents_at, all_codes}
+use Rattle.charges.specs.Codes.{all_codes}
+use Rattle.statement.specs.Lines.{changes, interval_changes, parties_changes, party_changes, line, cents_at}
 
 -- in an interval
 same_in : (run place : ℕ) (ids : List ℕ) {new new' earlier earlier' : IntervalAmounts} → Alike new new' → Alike earlier earlier'

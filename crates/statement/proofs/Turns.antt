@@ -10,11 +10,11 @@ use Rattle.charges.specs.declared.amounts.IntervalAmounts.{IntervalAmounts}
 use Rattle.charges.specs.declared.amounts.HourAmounts.{HourAmounts}
 use Rattle.charges.specs.declared.code.ChargeCode.{ChargeCode}
 use Rattle.charges.specs.declared.code.ChargeCode.TheVariants.{Cc6476}
-use Rattle.charges.specs.Codes.{charge_code_number, column_under}
+use Rattle.charges.specs.Codes.{all_codes, charge_code_number, column_under}
 use Rattle.charges.specs.Faults.{first_places}
 use Rattle.charges.specs.Charged.{at_place}
 use Rattle.statement.specs.declared.line.Line.{Line}
-use Rattle.statement.specs.Lines.{line, cents_at, all_codes, is_billed, come_to, party_changes, parties_changes, balance_change, interval_changes, changes, new_lines}
+use Rattle.statement.specs.Lines.{line, cents_at, is_billed, come_to, party_changes, parties_changes, balance_change, interval_changes, changes, new_lines}
 use Rattle.statement.specs.Promises.{InTurn}
 use Rattle.statement.proofs.Known.{Apart, Formed}
 use Rattle.statement.proofs.Places.{all_places, places_more}

@@ -11,7 +11,7 @@ use Rattle.charges.specs.declared.amounts.HourAmounts.{HourAmounts}
 use Rattle.charges.specs.declared.code.ChargeCode.{ChargeCode}
 use Rattle.charges.specs.declared.code.ChargeCode.TheVariants.{Cc6470, Cc6474, Cc6475, Cc6476, Cc6477}
 use Rattle.charges.specs.Amounts.{no_cents}
-use Rattle.charges.specs.Codes.{charge_code_number, column_under}
+use Rattle.charges.specs.Codes.{all_codes, charge_code_number, column_under}
 use Rattle.charges.specs.Faults.{first_places}
 use Rattle.charges.specs.Charged.{at_place}
 use Rattle.statement.specs.declared.line.Line.{Line}
@@ -44,10 +44,6 @@ key code place account l = l.account == account && under code place l
 -- what an account has been billed under a code in an interval, by its place from 0
 abbrev pub billed : List Line → ChargeCode → ℕ → ℕ → ℤ
 billed lines code place account = total_of (key code place account) lines
-
--- the codes, rising
-abbrev pub all_codes : List ChargeCode
-all_codes = Cc6470 ∷ Cc6474 ∷ Cc6475 ∷ Cc6476 ∷ Cc6477 ∷ []
 
 -- what stands at a place of a column
 abbrev pub cents_at : List Cents → ℕ → ℤ
