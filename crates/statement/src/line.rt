@@ -19,7 +19,7 @@ pub struct Line {
 
 // What an `ArrayVec` is filled with. By hand: `Cents` has no default of its own.
 impl Default for Line {
-    ghost is_default = { λ l. (l.run ≡ 0) × (l.cents.0 ≡ pos 0) };
+    ghost is_default = { λ l. (l.run ≡ 0) × (l.interval ≡ 0) × (l.account ≡ 0) × (l.code ≡ Cc6470) × (l.cents.0 ≡ pos 0) };
 
     fn default() -> Line {
         Line {
