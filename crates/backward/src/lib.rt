@@ -57,6 +57,8 @@ mod tests {
 
         ghost back = { λ z. refl };
 
+        ghost whole = { λ u. refl };
+
         fn new(count: i64) -> Coins {
             Coins(count)
         }
@@ -84,6 +86,8 @@ mod tests {
         ghost told = { λ x u. refl };
 
         ghost restored = { λ x u. refl };
+
+        ghost replaced = { λ x u v. refl };
 
         ghost steady = { λ x u. refl };
 

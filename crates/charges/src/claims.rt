@@ -42,6 +42,8 @@ impl Recipient for Claim {
 
     ghost restored = { λ x u. refl };
 
+    ghost replaced = { λ x u v. refl };
+
     ghost steady = { λ x u. refl };
 
     fn weight(&self) -> u32 {

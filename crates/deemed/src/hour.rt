@@ -38,6 +38,8 @@ impl Recipient for Interval {
 
     ghost restored = { λ x u. refl };
 
+    ghost replaced = { λ x u v. refl };
+
     ghost steady = { λ x u. refl };
 
     fn weight(&self) -> u32 {

@@ -19,6 +19,8 @@ impl Quantity for Units {
 
     ghost back = { λ z. refl };
 
+    ghost whole = { λ u. refl };
+
     fn new(count: i64) -> Units {
         Units(count)
     }

@@ -32,6 +32,8 @@ impl Quantity for Cents {
 
     ghost back = { λ z. refl };
 
+    ghost whole = { λ u. refl };
+
     fn new(count: i64) -> Cents {
         Cents(count)
     }
