@@ -38,6 +38,7 @@ module _ (table : List (List DeemedEnergy)) (h : Hour) (room : length h.resource
     areas = same_ids area_id h.areas.rows h.areas.rows refl;
     parties = same_ids party_id h.parties.rows h.parties.rows refl;
     resources = same_ids resource_id h.resources.rows (with_table table h.resources.rows) (ids_but_deemed table h.resources.rows room);
+    room = (refl, refl, refl);
   }
 
   -- where an energy stands in each interval

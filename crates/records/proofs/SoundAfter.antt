@@ -152,6 +152,7 @@ lasts_made (EnterArea id (Some kind)) h e s = (
     areas = more_ids area_id h.areas.rows (new_area (as_id id) kind);
     parties = same_ids party_id h.parties.rows h.parties.rows refl;
     resources = same_ids resource_id h.resources.rows h.resources.rows refl;
+    room = (refl, refl, refl);
   },
 )
 lasts_made (EnterParty id area) h e s = (
@@ -160,6 +161,7 @@ lasts_made (EnterParty id area) h e s = (
     areas = same_ids area_id h.areas.rows h.areas.rows refl;
     parties = more_ids party_id h.parties.rows (new_party (as_id id) (as_id area));
     resources = same_ids resource_id h.resources.rows h.resources.rows refl;
+    room = (refl, refl, refl);
   },
 )
 lasts_made (EnterResource id owner None net exempt) h e s = (s, none_new h)
@@ -169,6 +171,7 @@ lasts_made (EnterResource id owner (Some kind) net exempt) h e s = (
     areas = same_ids area_id h.areas.rows h.areas.rows refl;
     parties = same_ids party_id h.parties.rows h.parties.rows refl;
     resources = more_ids resource_id h.resources.rows (new_resource (as_id id) (as_id owner) kind (flag net) (flag exempt));
+    room = (refl, refl, refl);
   },
 )
 lasts_made (PostEnergy id interval post) h e s = energy_lasts h s id interval post

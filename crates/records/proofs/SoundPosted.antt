@@ -97,6 +97,7 @@ none_new h = record {
   areas = same_ids area_id h.areas.rows h.areas.rows refl;
   parties = same_ids party_id h.parties.rows h.parties.rows refl;
   resources = same_ids resource_id h.resources.rows h.resources.rows refl;
+  room = (refl, refl, refl);
 }
 
 -- the ids are a part of it
@@ -162,6 +163,7 @@ module _ (h g : Hour) (a : Alike h g) where
     areas = same_ids area_id h.areas.rows g.areas.rows area_ids;
     parties = same_ids party_id h.parties.rows g.parties.rows party_ids;
     resources = same_ids resource_id h.resources.rows g.resources.rows resource_ids;
+    room = (a.area_room, a.party_room, a.resource_room);
   }
 
   alike_lasts : All (AsEntered h) g.parties.rows → Sound h → Lasts h g

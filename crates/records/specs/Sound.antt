@@ -50,6 +50,8 @@ pub record Grows (before after : Hour) : Type 0 where
   pub areas : Extends area_id before.areas.rows after.areas.rows
   pub parties : Extends party_id before.parties.rows after.parties.rows
   pub resources : Extends resource_id before.resources.rows after.resources.rows
+  -- and in each table there may be as many rows as before
+  pub room : (after.areas.most ≡ before.areas.most) × (after.parties.most ≡ before.parties.most) × (after.resources.most ≡ before.resources.most)
 
 -- whatever accepted calls follow: sound records stay so, and only grow
 abbrev pub StepsKeepSound : Type 0

@@ -76,6 +76,7 @@ impl Records {
     pub fn keep_deemed(&mut self, table: &[[DeemedEnergy; INTERVALS]; MOST_RESOURCES])
         ensures records { self.new ≡ with_deemed table.now self.old }
         ensures sound { Sound self.new }
+        ensures grows { Grows self.old self.new }
     {
         self.hour.keep_deemed(table);
     }
