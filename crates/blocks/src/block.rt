@@ -1,11 +1,11 @@
 // The blocks of an input, and the names that their first lines may have.
-ghost use Rattle.std.specs.Prelude.{◌≡◌, bytes_eq};
-ghost use Rattle.blocks.specs.Names.{block_names, block_of, name_at, names_text, place_among, word_name};
+ghost use Rattle.std.specs.Prelude.{◌≡◌, Some, bytes_eq};
+ghost use Rattle.blocks.specs.Names.{block_names, block_of, blocks, name_at, names_text, place_among, word_name};
 
 use words::Words;
 
 // The most names that a block has.
-pub const MOST_NAMES: usize = 14;
+pub(crate) const MOST_NAMES: usize = 14;
 
 #[derive(Clone, Copy, PartialEq, Eq, Debug)]
 pub enum Block {
@@ -44,9 +44,10 @@ impl Block {
         Block::Settle,
     ];
 
-    // The names of its columns, its own first: what the block is known by.
+    // The names of its columns, its own first: what the block is known by, and no other.
     pub fn names(self) -> &'static [u8]
-        ensures { result.now ≡ names_text self }
+        ensures names { result.now ≡ names_text self }
+        ensures own { block_of (name_at self 0) ≡ Some self }
     {
         match self {
             Block::Area => b"area kind",
@@ -85,7 +86,8 @@ impl Block {
 
     // The block that a word names.
     pub fn named(word: &[u8]) -> Option<Block>
-        ensures { result ≡ block_of word.now }
+        ensures block { result ≡ block_of word.now }
+        ensures all { Block.ALL ≡ blocks }
     {
         Block::ALL
             .iter()

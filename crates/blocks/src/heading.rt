@@ -1,6 +1,6 @@
 // What heads a block: which it is, and the names of its columns.
 ghost use Rattle.std.specs.Prelude.{◌≡◌};
-ghost use Rattle.blocks.specs.Headings.{heading_of};
+ghost use Rattle.blocks.specs.Headings.{heading_of, longest_line};
 ghost use Rattle.blocks.specs.Orders.{order_in};
 ghost use Rattle.blocks.specs.Working.{Read};
 
@@ -67,7 +67,8 @@ impl Heading {
 
     // What a line of values orders.
     pub fn order(&self, line: &[u8]) -> Option<Order>
-        ensures { result ≡ order_in self.now line.now }
+        ensures order { result ≡ order_in self.now line.now }
+        ensures limit { LONGEST_LINE ≡ longest_line }
     {
         if line.len() > LONGEST_LINE {
             return None;

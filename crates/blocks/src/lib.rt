@@ -8,7 +8,7 @@ mod order;
 mod rule;
 mod values;
 
-pub use block::{Block, MOST_NAMES};
+pub use block::Block;
 pub use heading::{Heading, LONGEST_LINE};
 pub use mode::Mode;
 pub use order::Order;

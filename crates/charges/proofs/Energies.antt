@@ -65,7 +65,7 @@ module _ {shares : ℤ → List ℕ → List ℤ} (lawful : Lawful shares) where
   pub energies_within : (r : Resource) → length r.tags ≡ hour_length → All (λ z. unsigned_abs z ≤ most_deemed) (energies_by_kind shares r.kind r)
   energies_within r long = within_by_kind r.kind r long
 
-  counts_are : (r : Resource) → length r.tags ≡ hour_length → counts (new_energies shares r) ≡ energies_by_kind shares r.kind r
+  pub counts_are : (r : Resource) → length r.tags ≡ hour_length → counts (new_energies shares r) ≡ energies_by_kind shares r.kind r
   unfolding new_energies
   counts_are r long = counts_of (energies_by_kind shares r.kind r) (energies_within r long)
 

@@ -23,10 +23,10 @@ use Rattle.charges.specs.declared.amounts.IntervalAmounts.{IntervalAmounts}
 use Rattle.charges.specs.declared.amounts.HourAmounts.{HourAmounts}
 use Rattle.charges.specs.declared.fault.ChargeFault.{ChargeFault}
 use Rattle.charges.specs.Amounts.{no_amounts}
-use Rattle.charges.specs.Energies.{new_energies, with_new_energies, EnergyLaws}
+use Rattle.charges.specs.Energies.{energies_by_kind, new_energies, with_new_energies, counts, EnergyLaws}
 use Rattle.charges.specs.Faults.{tie_fault, interval_faults, first_places, hour_faults}
 use Rattle.charges.specs.Charged.{IntervalCharged, IntervalWorkedOut, HourCharged, HourLaws, renewed, at_place}
-use Rattle.charges.proofs.Energies.{energy_laws, tables_with}
+use Rattle.charges.proofs.Energies.{counts_are, energy_laws, tables_with}
 use Rattle.charges.proofs.IntervalLaws.{interval_laws, same_owners}
 
 -- the faults of the first so many intervals
@@ -66,12 +66,15 @@ at_front P f (x ∷ xs) more each =
 abbrev pub nothing : List (List DeemedEnergy)
 nothing = replicate most_resources (replicate hour_length (as_deemed (pos 0)))
 
-module _ {shares : ℤ → List ℕ → List ℤ} (h : Hour) (a : HourAmounts) where
+module _ {shares : ℤ → List ℕ → List ℤ} (lawful : Lawful shares) (h : Hour) (sound : Sound h) (a : HourAmounts) where
   pub hour_charged : a.deemed ≡ map (new_energies shares) h.resources.rows ++ drop (length h.resources.rows) nothing
       → ((place : ℕ) → place < hour_length → IntervalCharged shares h.areas.rows h.parties.rows (renewed shares h) place (at_place a place))
       → HourCharged shares h a
   hour_charged table charged = record {
     energies = table ∙ ap (λ l. map (new_energies shares) h.resources.rows ++ l) (drop-replicate (length h.resources.rows) most_resources _);
+    exact = rw table
+        (at_front (λ r energies. counts energies ≡ energies_by_kind shares r.kind r) (new_energies shares) h.resources.rows _
+        (λ i d k. counts_are lawful (get_or h.resources.rows i d) (sound.whole_resources i d k).1));
     intervals = charged;
   }
 

@@ -18,7 +18,7 @@ use Rattle.charges.specs.declared.amounts.IntervalAmounts.{IntervalAmounts}
 use Rattle.charges.specs.declared.amounts.HourAmounts.{HourAmounts}
 use Rattle.charges.specs.declared.fault.ChargeFault.{ChargeFault}
 use Rattle.charges.specs.Columns.{parties_in, entries_in, cents_in, weight, weights}
-use Rattle.charges.specs.Energies.{new_energies, with_new_energies, EnergyLaws}
+use Rattle.charges.specs.Energies.{energies_by_kind, new_energies, with_new_energies, counts, EnergyLaws}
 use Rattle.charges.specs.Amounts.{amount_6470, amount_6474, amount_6475, offset_pool, balance, column, cents, rest, no_amounts}
 use Rattle.charges.specs.Ranges.{most_amount}
 use Rattle.charges.specs.Faults.{interval_faults, hour_faults}
@@ -86,6 +86,8 @@ at_place a place = slice_index_or a.intervals place no_amounts
 -- the amounts of an hour
 pub record HourCharged (shares : ℤ → List ℕ → List ℤ) (h : Hour) (a : HourAmounts) : Type 0 where
   pub energies : a.deemed ≡ map (new_energies shares) h.resources.rows ++ replicate (most_resources - length h.resources.rows) (replicate hour_length (as_deemed (pos 0)))
+  -- as numbers they are the shares, or what the tags schedule: none is outside the range of the figures
+  pub exact : All (λ x. counts x.1 ≡ energies_by_kind shares x.0.kind x.0) (zip h.resources.rows a.deemed)
   pub intervals : (place : ℕ) → place < hour_length → IntervalCharged shares h.areas.rows h.parties.rows (renewed shares h) place (at_place a place)
 
 -- what holds of them, whatever the rule, where the resources are as these

@@ -1,12 +1,13 @@
 // The records of an hour. Of every `Records` what `Sound` says is true.
 ghost use Rattle.std.specs.Prelude.{◌≡◌, IfOk};
+ghost use Rattle.records.specs.Ranges.{most_areas, most_parties, most_resources};
 ghost use Rattle.records.specs.Hours.{opened, with_deemed};
 ghost use Rattle.records.specs.Calls.{answer_to, left_by, refusal};
 ghost use Rattle.records.specs.Sound.{Sound, Step, Grows, StepsKeepSound};
 ghost use Rattle.records.specs.Standing.{Stands};
 
 use super::call::Call;
-use super::hour::{Hour, MOST_RESOURCES};
+use super::hour::{Hour, MOST_AREAS, MOST_PARTIES, MOST_RESOURCES};
 use deemed::INTERVALS;
 use rows::{Area, DeemedEnergy, Party, Resource};
 use std::alloc::{AllocError, Global};
@@ -52,6 +53,7 @@ impl Records {
         ensures empty { IfOk result (λ records. records ≡ opened areas parties resources) }
         ensures sound { IfOk result Sound }
         ensures lasting { IfOk result (λ _. StepsKeepSound) }
+        ensures limits { (MOST_AREAS ≡ most_areas) × (MOST_PARTIES ≡ most_parties) × (MOST_RESOURCES ≡ most_resources) }
     {
         let hour = Hour::open(alloc, areas, parties, resources)?;
         Ok(Records { hour })

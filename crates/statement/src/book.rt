@@ -3,11 +3,12 @@ ghost use Rattle.std.specs.Prelude.{◌≡◌, IfOk};
 ghost use Rattle.records.specs.Calls.{answer_to};
 ghost use Rattle.records.specs.Standing.{Stands};
 ghost use Rattle.records.specs.Sound.{Step, Grows};
+ghost use Rattle.statement.specs.Ranges.{most_lines, most_runs};
 ghost use Rattle.statement.specs.Statements.{opened, taken};
 ghost use Rattle.statement.specs.Histories.{History};
 ghost use Rattle.statement.specs.Promises.{Promises, HistoriesKeepPromises, OneOutcome};
 
-use super::statement::Statement;
+use super::statement::{MOST_LINES, MOST_RUNS, Statement};
 use charges::IntervalAmounts;
 use deemed::INTERVALS;
 use records::Call;
@@ -45,6 +46,7 @@ impl Book {
         lines: usize,
     ) -> Result<Book, AllocError>
         ensures empty { IfOk result (λ book. book ≡ opened areas parties resources lines) }
+        ensures limits { (MOST_LINES ≡ most_lines) × (MOST_RUNS ≡ most_runs) }
         ensures history { IfOk result History }
         ensures promises { IfOk result Promises }
     {

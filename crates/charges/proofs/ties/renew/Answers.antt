@@ -15,7 +15,7 @@ figures-requires g c =
 
 pub figures-requires-in-DynamicTie : goal.figures-requires-in-DynamicTie
 figures-requires-in-DynamicTie g c =
-    rw c.units.ensures (units_within c.args.resource.now c.in-DynamicTie.is c.new-hour.ensures (g.met.R.SharingRule.lawful c.args.rule.now) c.in_ok-share-in-DynamicTie.ensures)
+    rw c.units.ensures (units_within c.args.resource.now c.in-DynamicTie.is c.new-hour.ensures.hour (g.met.R.SharingRule.lawful c.args.rule.now) c.in_ok-share-in-DynamicTie.ensures)
 
 pub returns-in-Plain : goal.returns-in-Plain
 unfolding new_energies
@@ -28,5 +28,5 @@ returns-in-StaticTie g c =
 
 pub returns-in_ok-share-in-DynamicTie : goal.returns-in_ok-share-in-DynamicTie
 returns-in_ok-share-in-DynamicTie g c =
-    renewed c.args.resource.now c.in-DynamicTie.is c.new-hour.ensures c.args.energies.now c.figures-in-DynamicTie.result c.in_ok-share-in-DynamicTie.ensures
+    renewed c.args.resource.now c.in-DynamicTie.is c.new-hour.ensures.hour c.args.energies.now c.figures-in-DynamicTie.result c.in_ok-share-in-DynamicTie.ensures
     (c.figures-in-DynamicTie.ensures ∙ ap (map (λ u. as_deemed u.0)) c.units.ensures)

@@ -69,5 +69,5 @@ returns g c =
     let table : a.deemed ≡ filled h.resources.rows (as_deemed (pos 0)) =
     c.in_ok-renew_all.ensures.1 ∙ ap (λ rows. filled rows c.zero.result) c.resources.ensures.rows ∙ ap (filled h.resources.rows) c.zero.ensures in
     let unrefused = first_fit-append (map tie_fault h.resources.rows) (so_far faults hour_length) ties ∙ none in
-    let charged : HourCharged shares h a = hour_charged h a table (λ place low. c.loop-place.invariant.2 place (omega arith)) in
+    let charged : HourCharged shares h a = hour_charged (g.met.R.SharingRule.lawful c.args.rule.now) h c.resources.ensures.sound a table (λ place low. c.loop-place.invariant.2 place (omega arith)) in
     (unrefused, charged, hour_laws (g.met.R.SharingRule.lawful c.args.rule.now) h c.resources.ensures.sound unrefused a charged)

@@ -8,7 +8,7 @@ returns-then-line-gt-LONGEST_LINE c = sym (long_heads_nothing c.args.line.now c.
 pub loop-name-init : goal.loop-name-init
 loop-name-init c =
     rw (c.new-columns.ensures, c.into_iter-name-iterator.ensures.into_iter_gives, c.of-name-items.ensures)
-    (none_placed (sym c.of.ensures ∙ c.in_ok-next.ensures.steps) (sym c.in_ok-block.ensures))
+    (none_placed (sym c.of.ensures ∙ c.in_ok-next.ensures.steps) (sym c.in_ok-block.ensures.block))
 
 pub returns-in_err-place : goal.returns-in_err-place
 returns-in_err-place c =
