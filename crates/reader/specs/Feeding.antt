@@ -36,11 +36,12 @@ pub record ReadOn (bytes rest : List ℕ) (before after : InputReader) (refused 
   pub number : after.number ≡ number_after before.number outcomes
   pub told : refused ≡ refused_after before.number outcomes
 
--- Read on to the next refused line, which is the last that was read, and some bytes at least; or to the end, and none is refused.
+-- Read on to the next refused line, which is the last that was read, with some bytes at least and none of the next line; or to the end, and none
+-- is refused.
 abbrev pub NextRefused : List ℕ → InputReader → InputReader → Option (RefusedLine × Bor (List ℕ)) → Type 0
 NextRefused bytes before after None = ReadOn bytes [] before after []
 NextRefused bytes before after (Some (line, rest)) =
-    ReadOn bytes rest.now before after (line ∷ []) × (line.number ≡ after.number) × (length rest.now < length bytes)
+    ReadOn bytes rest.now before after (line ∷ []) × (line.number ≡ after.number) × (after.begun.items ≡ []) × (length rest.now < length bytes)
 
 -- An input ends: whatever it was, all its lines have been taken, and the reader is at the start of another, on the statement after it.
 pub record Ended (before after : InputReader) (refused : Option RefusedLine) : Type 0 where

@@ -29,6 +29,7 @@ returns-in-Some-end_line c =
     let at = (goal.at.returns-in-Some-end_line c).After-end_line in (
       read_on_by_both _ _ _ _ _ _ _ _ read (line_read (apart at) c.in-Some-end_line.ensures),
       last_read c.in-Some-end_line.ensures,
+      c.in-Some-end_line.ensures.begun,
       omega (arith, shorter at, ap length read.parts, length-append read.front c.loop-after.rest.now),
     )
 
