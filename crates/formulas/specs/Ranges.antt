@@ -5,7 +5,7 @@ use Rattle.std.specs.Prelude.{ℕ}
 abbrev pub most_adjustment : ℕ
 most_adjustment = 130000000
 
--- what is transferred, and what is credited: two figures each
+-- what is transferred, a difference of two differences of figures, and what is credited, a figure less two others
 abbrev pub most_transfer : ℕ
 most_transfer = 20000000
 
