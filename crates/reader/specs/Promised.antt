@@ -1,5 +1,5 @@
 -- What is true of every input. Assumes nothing.
-use Rattle.std.specs.Prelude.{◌≡◌, ℕ, List, [], ◌∷◌, ◌++◌, filter_map, Option, None, Ok, Err}
+use Rattle.std.specs.Prelude.{◌≡◌, ℕ, List, [], ◌∷◌, ◌++◌, filter_map, Option, None, Ok, Err, ⊤}
 use Rattle.std.specs.Io.KnownBytes.{Appends, Consumes, IsAtEnd}
 use Rattle.records.specs.Ranges.{most_areas, most_parties, most_resources}
 use Rattle.statement.specs.Ranges.{most_lines}
@@ -8,8 +8,11 @@ use Rattle.statement.specs.Statements.{opened}
 use Rattle.statement.specs.Histories.{History}
 use Rattle.statement.specs.Promises.{Promises}
 use Rattle.blocks.specs.declared.order.Order.{Order}
+use Rattle.reader.specs.declared.failure.RunError.{RunError}
+use Rattle.reader.specs.declared.failure.RunError.TheVariants.{OutOfMemory, Input, Output}
+use Rattle.reader.specs.declared.lines.LineReader.{LineReader}
 use Rattle.reader.specs.Carrying.{Outcome, Carried}
-use Rattle.reader.specs.Inputs.{InputTaken}
+use Rattle.reader.specs.Inputs.{lines_of, starting, LinesTaken, InputTaken}
 use Rattle.reader.specs.Printing.{refused_after, refusals_text, listing_text}
 
 -- the orders that were accepted, in turn
@@ -46,6 +49,25 @@ pub record Printed (given left held holds : Option (List ℕ)) : Type 0 where
   pub carried : AllCarried (accepted_orders outcomes) full_book statement
   pub history : History statement
   pub promises : Promises statement
+
+-- An input read so far, and of the lines that have ended in it just the refused ones printed, by the same bytes
+pub record PrintedSoFar (given left held holds : Option (List ℕ)) : Type 0 where
+  pub input : List ℕ
+  pub read : Consumes given left input
+  pub ended : List (List ℕ)
+  pub begun : List ℕ
+  pub lines : lines_of input ≡ ended ++ begun ∷ []
+  pub reader : LineReader
+  pub outcomes : List Outcome
+  pub taken : LinesTaken ended (starting full_book) reader outcomes
+  pub written : Appends held holds (refusals_text (refused_after 0 outcomes))
+
+-- What has been read and printed by a failure: nothing where there is no memory, and where the input cannot be read on the refused lines so far.
+-- Where the output cannot be written nothing is said, since no writer tells what it has taken by then.
+abbrev pub PrintedOnFailure : RunError → Option (List ℕ) → Option (List ℕ) → Option (List ℕ) → Option (List ℕ) → Type 0
+PrintedOnFailure OutOfMemory given left held holds = (left ≡ given) × (holds ≡ held)
+PrintedOnFailure (Input error) given left held holds = PrintedSoFar given left held holds
+PrintedOnFailure (Output error) given left held holds = ⊤
 
 -- an input has one outcome: the statement that it starts on leaves no choice, neither of its lines' outcomes nor of the statement after it
 abbrev pub OneOutput : Type 0

@@ -1,10 +1,11 @@
 // The program: an input to its output.
-ghost use Rattle.std.specs.Prelude.{◌<◌, [], OnOk, length};
+ghost use Rattle.std.specs.Prelude.{◌<◌, [], OnOk, IfErr, length};
 ghost use Rattle.statement.specs.Promises.{Promises};
 ghost use Rattle.reader.specs.Feeding.{Led};
-ghost use Rattle.reader.specs.Promised.{OneOutput, Printed, full_book};
+ghost use Rattle.reader.specs.Promised.{OneOutput, Printed, PrintedOnFailure, full_book};
 ghost use Rattle.reader.specs.Working.{Fed, FinishedWith};
 
+use super::failure::RunError;
 use super::input::InputReader;
 use super::listing::write_listing;
 use records::{MOST_AREAS, MOST_PARTIES, MOST_RESOURCES};
@@ -44,25 +45,27 @@ fn print_input<R: Read, W: Write>(
     block: &mut [u8],
     reader: &mut InputReader,
     out: &mut W,
-) -> io::Result<()>
+) -> Result<(), RunError>
     requires room { 0 < length block.now }
     requires at_start { Led full_book [] reader.old [] }
-    ensures { OnOk result (Printed (R.remaining input.old) (R.remaining input.new) (W.contents out.old) (W.contents out.new)) }
+    ensures printed { OnOk result (Printed (R.remaining input.old) (R.remaining input.new) (W.contents out.old) (W.contents out.new)) }
+    ensures failed { IfErr result (λ error. PrintedOnFailure error (R.remaining input.old) (R.remaining input.new) (W.contents out.old) (W.contents out.new)) }
 {
     for _ in 0..u64::MAX {
         match input.read(block) {
-            Ok(0) => return finish(reader, out),
-            Ok(count) => feed(reader, &block[..count], out)?,
+            Ok(0) => return finish(reader, out).map_err(RunError::Output),
+            Ok(count) => feed(reader, &block[..count], out).map_err(RunError::Output)?,
             Err(error) if error.kind() == ErrorKind::Interrupted => {}
-            Err(error) => return Err(error),
+            Err(error) => return Err(RunError::Input(error)),
         }
     }
-    Err(io::Error::from(ErrorKind::TimedOut))
+    Err(RunError::Input(io::Error::from(ErrorKind::TimedOut)))
 }
 
 // Reads an input on a book of the full numbers of rows, prints the lines that are refused, and then the listing.
-pub fn run<R: Read, W: Write>(alloc: Global, input: &mut R, out: &mut W) -> io::Result<()>
+pub fn run<R: Read, W: Write>(alloc: Global, input: &mut R, out: &mut W) -> Result<(), RunError>
     ensures printed { OnOk result (Printed (R.remaining input.old) (R.remaining input.new) (W.contents out.old) (W.contents out.new)) }
+    ensures failed { IfErr result (λ error. PrintedOnFailure error (R.remaining input.old) (R.remaining input.new) (W.contents out.old) (W.contents out.new)) }
     ensures one_output { OneOutput }
 {
     let mut block = vec![in alloc; 0u8; BLOCK]?;
