@@ -19,7 +19,7 @@ use Rattle.statement.specs.declared.statement.Statement.{Statement}
 use Rattle.statement.specs.Ranges.{most_lines, most_runs}
 use Rattle.statement.specs.Lines.{total_of, under, billed, come_to, cents_at, is_surcharge, same_code}
 use Rattle.statement.specs.Statements.{ids}
-use Rattle.statement.specs.Promises.{InTurn, Balances}
+use Rattle.statement.specs.Promises.{IsLine, InTurn, Balances}
 use Rattle.statement.specs.Tallies.{Tallied}
 
 -- an account that lines may have: 0, or that of a party
@@ -49,13 +49,6 @@ pub record Agrees (lines : List Line) (ids : List ℕ) (place : ℕ) (x : Interv
 abbrev pub Behind : ℕ → IntervalAmounts → Type 0
 Behind n x = (code : ChargeCode) → (length (column_under code x) ≡ most_parties) × (drop n (column_under code x) ≡ replicate (most_parties - n) no_cents)
 
--- a line as every run adds them, whatever its account
-pub record Formed (runs : ℕ) (l : Line) : Type 0 where
-  pub of_run : (1 ≤ l.run) × (l.run ≤ runs)
-  pub of_interval : (1 ≤ l.interval) × (l.interval ≤ hour_length)
-  pub of_0 : l.account ≡ 0 → l.code ≡ Cc6476
-  pub bills : l.cents.0 ≢ pos 0
-
 -- the lines come to amounts that some rule gives, and these are as the laws want them
 pub record Billed (b : Statement) : Type 0 where
   pub shares : ℤ → List ℕ → List ℤ
@@ -69,7 +62,7 @@ pub record Billed (b : Statement) : Type 0 where
 pub record Reached (b : Statement) : Type 0 where
   pub sound : Sound b.records
   pub accounts : All (λ l. known (ids b) l.account ≡ true) b.lines.rows
-  pub formed : All (Formed b.runs) b.lines.rows
+  pub each : All (IsLine b.runs) b.lines.rows
   pub in_turn : AllPairs InTurn b.lines.rows
   pub fit : length b.lines.rows ≤ b.lines.most
   pub bound : b.lines.most ≤ most_lines

@@ -133,16 +133,8 @@ of_party rows account e some = rw (found_any rows account) (grind (arith, e, som
 
 sound_lines : (b : Statement) → Reached b → SoundLines b
 sound_lines b known = record {
-  each = λ k d inside.
-      let l = get_or b.lines.rows k d in
-      let formed = known.formed k d inside in
-      record {
-        of_run = formed.of_run;
-        of_interval = formed.of_interval;
-        of_party = of_party b.records.parties.rows l.account (known.accounts k d inside);
-        of_0 = formed.of_0;
-        bills = formed.bills;
-      };
+  each = known.each;
+  accounts = λ k d inside. of_party b.records.parties.rows (get_or b.lines.rows k d).account (known.accounts k d inside);
   in_turn = known.in_turn;
   fit = known.fit;
   bound = known.bound;

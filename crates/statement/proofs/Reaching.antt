@@ -40,13 +40,13 @@ use Rattle.statement.specs.Ranges.{most_runs}
 use Rattle.statement.specs.Lines.{is_surcharge, same_code, surcharge_in, other_in, come_to, new_lines, total_of, under}
 use Rattle.statement.specs.Statements.{opened, ids, taken, with_records, with_run, added, settle_reasons, reasons_before_work, Settled}
 use Rattle.statement.specs.Histories.{History, opening, call, settle}
-use Rattle.statement.specs.Promises.{InTurn}
-use Rattle.statement.proofs.Known.{known, Apart, Formed, Reached, Behind, interval_total}
+use Rattle.statement.specs.Promises.{IsLine, InTurn}
+use Rattle.statement.proofs.Known.{known, Apart, Reached, Behind, interval_total}
 use Rattle.statement.proofs.LineTotals.{total_of-nil}
 use Rattle.statement.proofs.KnownIds.{still_known, unbilled}
 use Rattle.statement.proofs.AfterRun.{total_after, all_after, runs_balance}
 use Rattle.statement.proofs.NewLines.{agrees_after, accounts_known}
-use Rattle.statement.proofs.Turns.{pairs-append, new_in_turn, new_formed, still_formed, in_turn_after}
+use Rattle.statement.proofs.Turns.{pairs-append, new_in_turn, new_each, still_line, in_turn_after}
 use Rattle.statement.proofs.Columns.{charged_behind, tallied_of}
 use Rattle.statement.proofs.IntervalTotals.{surcharge_total, other_total, grown_total}
 use Rattle.statement.proofs.Renewed.{sound_renewed}
@@ -107,7 +107,7 @@ pub reached_opened : (areas parties resources lines : ℕ) → Reached (opened a
 reached_opened areas parties resources lines = record {
   sound = sound_opened areas parties resources;
   accounts = All-nil (λ l. known [] l.account ≡ true);
-  formed = All-nil (Formed 0);
+  each = All-nil (IsLine 0);
   in_turn = λ i j d less inside. absurd (omega arith);
   fit = omega arith;
   bound = omega arith;
@@ -135,7 +135,7 @@ grown b h sound grows reached =
       sound = sound;
       accounts = All-weaker (λ l. known (ids b) l.account ≡ true) (λ l. known (ids (with_records h b)) l.account ≡ true)
           (λ l e. rw are (still_known (ids b) more apart l.account e)) b.lines.rows reached.accounts;
-      formed = reached.formed;
+      each = reached.each;
       in_turn = reached.in_turn;
       fit = reached.fit;
       bound = reached.bound;
@@ -165,7 +165,6 @@ reached_run {shares} lawful b reached a unrefused charged run_left room =
     let lines : List Line = b.lines.rows in
     let new : List Line = new_lines (b.runs + 1) lines (ids b) a in
     let apart : Apart (ids b) = apart_ids b reached.sound in
-    let formed = new_formed b.runs lines (ids b) a apart in
     let laws : HourLaws b.records (renewed shares b.records) a = hour_laws lawful b.records reached.sound unrefused a charged in
     let long : length (ids b) ≡ length b.records.parties.rows = length-map b.records.parties.rows party_id in
     let few : length b.records.parties.rows ≤ most_parties = let few = apart.few in omega arith in
@@ -178,8 +177,8 @@ reached_run {shares} lawful b reached a unrefused charged run_left room =
     record {
       sound = sound_renewed lawful b.records reached.sound;
       accounts = All-append (λ l. known (ids b) l.account ≡ true) lines new reached.accounts (accounts_known (b.runs + 1) lines (ids b) a);
-      formed = All-append (Formed (b.runs + 1)) lines new (All-weaker (Formed b.runs) (Formed (b.runs + 1)) (still_formed b.runs) lines reached.formed) formed;
-      in_turn = pairs-append InTurn lines new reached.in_turn (new_in_turn b.runs lines (ids b) a apart) (in_turn_after b.runs lines (ids b) a reached.formed);
+      each = All-append (IsLine (b.runs + 1)) lines new (All-weaker (IsLine b.runs) (IsLine (b.runs + 1)) (still_line b.runs) lines reached.each) (new_each b.runs lines (ids b) a apart);
+      in_turn = pairs-append InTurn lines new reached.in_turn (new_in_turn b.runs lines (ids b) a apart) (in_turn_after b.runs lines (ids b) a reached.each);
       fit = let long = length-append lines new in grind (arith, nat_tests, room, long);
       bound = reached.bound;
       counted = ⊎_elim (λ less. omega arith) (λ last. absurd (run_left (let counted = reached.counted in omega arith))) (cases_lt b.runs most_runs);

@@ -15,8 +15,8 @@ use Rattle.charges.specs.Faults.{first_places}
 use Rattle.charges.specs.Charged.{at_place}
 use Rattle.statement.specs.declared.line.Line.{Line}
 use Rattle.statement.specs.Lines.{line, cents_at, is_billed, come_to, party_changes, parties_changes, balance_change, interval_changes, changes, new_lines}
-use Rattle.statement.specs.Promises.{InTurn}
-use Rattle.statement.proofs.Known.{Apart, Formed}
+use Rattle.statement.specs.Promises.{IsLine, InTurn}
+use Rattle.statement.proofs.Known.{Apart}
 use Rattle.statement.proofs.Places.{all_places, places_more}
 use Rattle.statement.proofs.NewLines.{run_is}
 use Rattle.statement.proofs.Changing.{all_of_each, party_all, interval_all, changes_all}
@@ -132,8 +132,8 @@ module _ (runs : ℕ) (lines : List Line) (ids : List ℕ) (a : HourAmounts) whe
       (pairs_of_places InTurn g hour_length (λ place inside. interval_in_turn run place (at_place a place) (earlier place) ids apart) across)
 
   -- and each is as it must be
-  pub new_formed : Apart ids → All (Formed (runs + 1)) new
-  new_formed apart =
+  pub new_each : Apart ids → All (IsLine (runs + 1)) new
+  new_each apart =
       let Shape : Line → Type 0 = λ l. (l.run ≡ runs + 1) × (1 ≤ l.interval) × (l.interval ≤ hour_length) × (l.account ≡ 0 → l.code ≡ Cc6476) in
       let shaped : All Shape new =
       All-filter is_billed Shape all
@@ -152,16 +152,16 @@ module _ (runs : ℕ) (lines : List Line) (ids : List ℕ) (a : HourAmounts) whe
       }
 
   -- they stand behind the lines before
-  pub in_turn_after : All (Formed runs) lines → All (λ l. All (InTurn l) new) lines
-  in_turn_after formed =
-      All-weaker (Formed runs) (λ l. All (InTurn l) new)
+  pub in_turn_after : All (IsLine runs) lines → All (λ l. All (InTurn l) new) lines
+  in_turn_after each =
+      All-weaker (IsLine runs) (λ l. All (InTurn l) new)
       (λ l known k d inside.
       let own = run_is (runs + 1) lines ids a k d inside in
       let before = known.of_run in
       record { runs = omega (arith, before.1); intervals = λ e. absurd (omega (arith, before.1)); codes = λ e same. absurd (omega (arith, before.1)) })
-      lines formed
+      lines each
 
 -- lines are as they must be where there is a run more
-pub still_formed : (runs : ℕ) (l : Line) → Formed runs l → Formed (runs + 1) l
-still_formed runs l formed =
-    let r = formed.of_run in record { of_run = (r.0, omega (arith, r.1)); of_interval = formed.of_interval; of_0 = formed.of_0; bills = formed.bills }
+pub still_line : (runs : ℕ) (l : Line) → IsLine runs l → IsLine (runs + 1) l
+still_line runs l is =
+    let r = is.of_run in record { of_run = (r.0, omega (arith, r.1)); of_interval = is.of_interval; of_0 = is.of_0; bills = is.bills }

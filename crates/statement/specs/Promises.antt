@@ -22,12 +22,10 @@ use Rattle.statement.specs.Lines.{total_of, surcharge_in, other_in, under, bille
 use Rattle.statement.specs.Statements.{Settled}
 use Rattle.statement.specs.Histories.{History}
 
--- a line that a run of the statement has added
-pub record IsLine (b : Statement) (l : Line) : Type 0 where
-  pub of_run : (1 ≤ l.run) × (l.run ≤ b.runs)
+-- a line that one of so many runs has added; account 0 has lines under CC 6476 alone
+pub record IsLine (runs : ℕ) (l : Line) : Type 0 where
+  pub of_run : (1 ≤ l.run) × (l.run ≤ runs)
   pub of_interval : (1 ≤ l.interval) × (l.interval ≤ hour_length)
-  -- its account is that of a party that is entered, or 0, which has lines under CC 6476 alone
-  pub of_party : l.account ≢ 0 → is_some (party_of b.records l.account) ≡ true
   pub of_0 : l.account ≡ 0 → l.code ≡ Cc6476
   pub bills : l.cents.0 ≢ pos 0
 
@@ -40,7 +38,9 @@ pub record InTurn (l m : Line) : Type 0 where
 
 -- the lines are those of the runs, in turn, and no more than there is room for; nor are there more runs than there may be
 pub record SoundLines (b : Statement) : Type 0 where
-  pub each : All (IsLine b) b.lines.rows
+  pub each : All (IsLine b.runs) b.lines.rows
+  -- an account that is not 0 is that of a party that is entered
+  pub accounts : All (λ l. l.account ≢ 0 → is_some (party_of b.records l.account) ≡ true) b.lines.rows
   pub in_turn : AllPairs InTurn b.lines.rows
   pub fit : length b.lines.rows ≤ b.lines.most
   pub bound : b.lines.most ≤ most_lines
