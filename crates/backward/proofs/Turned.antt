@@ -1,27 +1,15 @@
 -- Refusals and items, turned round. Assumes nothing.
-use Rattle.std.specs.Prelude.{◌≡◌, ℕ, ◌-◌, List, reverse, length, ℤ}
-use Rattle.std.proofs.Common.{ap, ◌∙◌, subst, arith}
-use Rattle.std.proofs.lemmas.List.{length-reverse, get_or-reverse, reverse-reverse}
+use Rattle.std.specs.Prelude.{◌≡◌, ℕ, List, reverse, length, ℤ}
+use Rattle.std.proofs.Common.{ap, ◌∙◌, subst}
+use Rattle.std.proofs.lemmas.List.{length-reverse, reverse-reverse}
 use Rattle.arrayvec.specs.ArrayVec.{ArrayVec, with_items}
 use Rattle.arrayvec.proofs.ArrayVecLemmas.{items-with_items}
 use Rattle.sharing.specs.declared.outcome.SharingFault.{SharingFault}
 use Rattle.sharing.specs.declared.outcome.SharingFault.TheVariants.{Limit, NoWeight}
 use Rattle.sharing.specs.Limits.{Within, Shareable}
 use Rattle.sharing.specs.Outcome.{Refused}
-use Rattle.backward.specs.Turning.{sum-reverse, Shareable-reverse}
+use Rattle.backward.specs.Turning.{sum-reverse, Shareable-reverse, Within-reverse}
 
-pub Within-reverse : (p : ℤ) (ws : List ℕ) → Within p ws → Within p (reverse ws)
-Within-reverse p ws w =
-    record {
-      pool = w.pool;
-      count = omega (arith, w.count, length-reverse ws);
-      each = λ i h.
-          let e = length-reverse ws in
-          omega (arith, get_or-reverse ws i 0 (omega arith), w.each (length ws - 1 - i) (omega arith));
-      total = omega (arith, w.total, sum-reverse ws);
-    }
-
--- and back again
 pub within_back : (p : ℤ) (ws : List ℕ) → Within p (reverse ws) → Within p ws
 within_back p ws w = subst (Within p) (reverse-reverse ws) (Within-reverse p (reverse ws) w)
 

@@ -1,22 +1,22 @@
-// A sharing rule from outside the crate `sharing`: any rule, worked from the last place backwards.
+//! A sharing rule from outside the crate `sharing`: any rule, worked from the last place backwards.
 #![tactic(auto)]
 
 ghost use Rattle.std.specs.Prelude.{◌≡◌, ◌≤◌, reverse, length, refl};
 ghost use Rattle.sharing.specs.Limits.{most_weights};
-ghost use Rattle.sharing.specs.Outcome.{held};
+ghost use Rattle.sharing.specs.Outcome.{shares_in};
 ghost use Rattle.backward.specs.Turning;
 
 use arrayvec::ArrayVec;
 use sharing::{MOST_WEIGHTS, Shares, SharingFault, SharingRule};
 
-// Among equals the later place comes first.
+/// Any rule, worked from the last place backwards: the last weight is shared to first. It refuses what every rule refuses.
 #[derive(Clone, Copy)]
 pub struct Backward<R>(pub R);
 
 impl<R: SharingRule> SharingRule for Backward<R> {
     ghost shares = { λ rule p ws. reverse (R.SharingRule.shares rule.0 p (reverse ws)) };
 
-    ghost lawful = { λ rule p ws. Turning.turned p ws (R.SharingRule.shares rule.0 p (reverse ws)) (R.SharingRule.lawful rule.0 p (reverse ws)) };
+    ghost lawful = { λ rule. Turning.turned_lawful (R.SharingRule.shares rule.0) (R.SharingRule.lawful rule.0) };
 
     fn share(&self, pool: i64, weights: &[u32]) -> Result<Shares, SharingFault> {
         let Ok(mut turned) = ArrayVec::<u32, MOST_WEIGHTS>::try_from(weights) else {
@@ -31,9 +31,8 @@ impl<R: SharingRule> SharingRule for Backward<R> {
 // The shares, the last place first.
 fn reversed(shares: &[i64]) -> Shares
     requires { length shares.now ≤ most_weights }
-    ensures { held result ≡ reverse shares.now }
+    ensures { shares_in result ≡ reverse shares.now }
 {
-    // an array, as `Shares` holds one
     let mut at = [0i64; MOST_WEIGHTS];
     at[..shares.len()].copy_from_slice(shares);
     at[..shares.len()].reverse();
@@ -83,11 +82,7 @@ mod tests {
 
         ghost having = { λ x c. record { weight = x.weight; coins = c } };
 
-        ghost told = { λ x u. refl };
-
-        ghost restored = { λ x u. refl };
-
-        ghost replaced = { λ x u v. refl };
+        ghost tells_back = { λ x u. refl };
 
         ghost steady = { λ x u. refl };
 

@@ -1,6 +1,7 @@
--- The laws that every sharing rule keeps, wherever it puts the units that rounding leaves over. Assumes nothing.
+-- The laws that a sharing rule keeps inside the limits, wherever it puts the units that rounding leaves over.
+-- Assumes nothing.
 use Rattle.std.specs.Prelude.{◌≡◌, ℕ, ◌<◌, List, length, ℤ, pos, ◌+ℤ◌, ◌-ℤ◌, ◌*ℤ◌, fold, sum, slice_index, slice_index_or, unsigned_abs}
-use Rattle.sharing.specs.Limits.{Shareable}
+use Rattle.sharing.specs.Limits.{Within, Shareable}
 
 -- the total of the shares
 abbrev pub total : List ℤ → ℤ
@@ -21,4 +22,4 @@ pub record Apportioned (p : ℤ) (ws : List ℕ) (zs : List ℤ) : Type 0 where
   pub no_weight : (i : ℕ) → sum ws ≡ 0 → i < length ws → slice_index_or zs i (pos 0) ≡ pos 0
 
 abbrev pub Lawful : (ℤ → List ℕ → List ℤ) → Type 0
-Lawful shares = (p : ℤ) (ws : List ℕ) → Apportioned p ws (shares p ws)
+Lawful shares = (p : ℤ) (ws : List ℕ) → Within p ws → Apportioned p ws (shares p ws)

@@ -1,7 +1,7 @@
 -- The sizes of largest remainder are exact: just as many places get one unit more as units are missing, and each of them
 -- has a remainder. Assumes nothing.
-use Rattle.std.specs.Prelude.{◌≡◌, ℕ, zero, suc, ◌+◌, ◌*◌, ◌/◌, ◌%◌, ◌<◌, ◌≤◌, Bool, true, false, cond, ltb, List, [], ◌∷◌, length, take, sum_by, sum, ◌==◌, ◌≢◌, nat_lt, slice_index, slice_index_or}
-use Rattle.std.proofs.Common.{sym, ap, ◌∙◌, le_refl, le_trans, mul-zero, mul-one, mul-add, add-mul, mul_comm, mul_assoc, mod-lt, add-one, arith}
+use Rattle.std.specs.Prelude.{◌≡◌, ℕ, zero, suc, ◌+◌, ◌*◌, ◌/◌, ◌%◌, ◌<◌, ◌≤◌, Bool, true, false, cond, ltb, List, [], ◌∷◌, length, take, sum_by, sum, ◌==◌, ◌≢◌, ◌⊎◌, nat_lt, slice_index, slice_index_or}
+use Rattle.std.proofs.Common.{sym, ap, ◌∙◌, le_refl, le_trans, mul-zero, mul-one, mul-add, mul_comm, mod-lt, add-one, arith}
 use Rattle.std.proofs.Math.Logic.{⊎_elim}
 use Rattle.std.proofs.Math.Nat.{le_of_mul-le-mul_left, div-add-mod}
 use Rattle.std.proofs.lemmas.List.{take_all, length-map, get_or-map}
@@ -9,10 +9,10 @@ use Rattle.std.proofs.lemmas.List.Sums.{sum_by-cons, sum_by_more, sum-map}
 use Rattle.std.proofs.lemmas.Bool.{cases_lt, cases_Bool, lt-ltb, ltb-true}
 use Rattle.std.proofs.lemmas.Bool.Decides.{nat_tests}
 use Rattle.sharing.specs.Laws.{Lawful}
-use Rattle.sharing.specs.LargestRemainder.{bit, tally, remainders, missing, comes_before, rank, largest_remainder_size, largest_remainder}
-use Rattle.sharing.specs.Sums.{up_to, up_to_is, sum_more, sum_all}
-use Rattle.sharing.specs.BySize.{Exact, apportioned}
-use Rattle.sharing.specs.Tallies.{tally_more, tally_le, tally_mono, bit-true, bit-false, ranked_below}
+use Rattle.sharing.specs.LargestRemainder.{bit, tally, remainders, shortfall, comes_before, rank, largest_remainder_size, largest_remainder}
+use Rattle.sharing.specs.Sums.{up_to, up_to_is, sum_more, sum_all, part_split}
+use Rattle.sharing.specs.BySize.{AreExact, apportioned}
+use Rattle.sharing.specs.Tallies.{tally_more, tally_le, tally_mono, bit-true, bit-false, ranked_below, ranked_order}
 
 -- a place i of remainder a before a place j of remainder b
 first : ℕ → ℕ → ℕ → ℕ → Bool
@@ -29,6 +29,10 @@ first_along a i b j c k h l = grind (arith, nat_tests)
 first_either : (a i b j : ℕ) → (i ≢ j) → first a i b j ≡ false → first b j a i ≡ true
 unfolding first
 first_either a i b j ne h = grind (arith, nat_tests)
+
+first_means : (a i b j : ℕ) → first a i b j ≡ true → (b < a) ⊎ ((a ≡ b) × (i < j))
+unfolding first
+first_means a i b j h = grind (arith, nat_tests)
 
 first_larger : (a i b j : ℕ) → b < a → first a i b j ≡ true
 unfolding first
@@ -87,24 +91,24 @@ module _ (r : ℕ) (ws : List ℕ) (part : r < sum ws) where
   pub down_le : sum_by (λ w. r * w / sum ws) ws ≤ r
   down_le = le_of_mul-le-mul_left (let h = whole_parts in omega arith) some
 
-  left_is : sum rs ≡ whole * missing r ws
+  left_is : sum rs ≡ whole * shortfall r ws
   left_is =
       let le = down_le in
-      let e : whole * r ≡ whole * down + whole * missing r ws = ap (λ x. whole * x) (omega arith) ∙ mul-add whole down (missing r ws) in
+      let e : whole * r ≡ whole * down + whole * shortfall r ws = ap (λ x. whole * x) (omega arith) ∙ mul-add whole down (shortfall r ws) in
       omega (arith, whole_parts)
 
   -- at least as many places have a remainder as units are missing
-  missing-tally : missing r ws ≤ tally (λ j. ltb 0 (slice_index rs j)) (length rs)
+  missing-tally : shortfall r ws ≤ tally (λ j. ltb 0 (slice_index rs j)) (length rs)
   missing-tally =
       let e : sum (take (length rs) rs) ≡ sum rs = sum_all rs (length rs) (le_refl (length rs)) in
       let le = remainders_le whole rs below (length rs) (le_refl (length rs)) in
       le_of_mul-le-mul_left (omega (arith, left_is)) some
 
-  missing_le : missing r ws ≤ length rs
+  missing_le : shortfall r ws ≤ length rs
   missing_le = le_trans missing-tally (tally_le (λ j. ltb 0 (slice_index rs j)) (length rs))
 
   -- only a place that has a remainder gets one more
-  positive : (i : ℕ) → rank rs i < missing r ws → 0 < slice_index rs i
+  positive : (i : ℕ) → rank rs i < shortfall r ws → 0 < slice_index rs i
   unfolding first
   positive i h =
       ⊎_elim (λ p. p)
@@ -114,14 +118,24 @@ module _ (r : ℕ) (ws : List ℕ) (part : r < sum ws) where
       (cases_lt 0 (slice_index rs i))
 
   abbrev gets_more : ℕ → Bool
-  gets_more i = nat_lt (rank rs i) (missing r ws)
+  gets_more i = nat_lt (rank rs i) (shortfall r ws)
 
-  counted : tally gets_more (length rs) ≡ missing r ws
+  counted : tally gets_more (length rs) ≡ shortfall r ws
   unfolding first
   counted =
       ranked_below (comes_before rs) (λ i. first_itself (slice_index rs i) i)
       (λ i j k. first_along (slice_index rs i) i (slice_index rs j) j (slice_index rs k) k)
-      (λ i j. first_either (slice_index rs i) i (slice_index rs j) j) (length rs) (missing r ws) missing_le
+      (λ i j. first_either (slice_index rs i) i (slice_index rs j) j) (length rs) (shortfall r ws) missing_le
+
+  -- who gets one more comes before who gets none
+  pub more_first : (i j : ℕ) → j < length ws → rank rs i < shortfall r ws → shortfall r ws ≤ rank rs j
+      → (slice_index rs j < slice_index rs i) ⊎ ((slice_index rs i ≡ slice_index rs j) × (i < j))
+  unfolding first
+  more_first i j h few many =
+      first_means (slice_index rs i) i (slice_index rs j) j
+      (ranked_order (comes_before rs) (λ i. first_itself (slice_index rs i) i)
+      (λ i j k. first_along (slice_index rs i) i (slice_index rs j) j (slice_index rs k) k)
+      (λ i j. first_either (slice_index rs i) i (slice_index rs j) j) (length rs) i j (omega (arith, length-rs)) (omega arith))
 
   module _ (q : ℕ) where
     -- the sizes of the first k
@@ -142,7 +156,7 @@ module _ (r : ℕ) (ws : List ℕ) (part : r < sum ws) where
     reached_all =
         let s : q * sum (take (length ws) ws) ≡ q * whole = ap (λ x. q * x) (sum_all ws (length ws) (le_refl (length ws))) in
         let d : sum_by (λ w. r * w / whole) (take (length ws) ws) ≡ down = ap (sum_by (λ w. r * w / whole)) (take_all (length ws) ws (le_refl (length ws))) in
-        let t : tally gets_more (length ws) ≡ missing r ws = ap (tally gets_more) (sym length-rs) ∙ counted in
+        let t : tally gets_more (length ws) ≡ shortfall r ws = ap (tally gets_more) (sym length-rs) ∙ counted in
         omega (arith, down_le)
 
     sizes_all : up_to (largest_remainder_size q r ws) (length ws) ≡ q * sum ws + r
@@ -153,7 +167,7 @@ module _ (r : ℕ) (ws : List ℕ) (part : r < sum ws) where
     sizes_near i l =
         let w : ℕ = slice_index_or ws i 0 in
         let t : Bool = gets_more i in
-        let exact : (q * whole + r) * w ≡ whole * (q * w) + r * w = add-mul (q * whole) r w ∙ ap (λ x. x + r * w) (ap (λ x. x * w) (mul_comm q whole) ∙ mul_assoc whole q w) in
+        let exact = part_split q r whole w in
         let at = div-add-mod (r * w) whole in
         let lt = mod-lt (r * w) some in
         let is = slice_index-rs i l in
@@ -161,14 +175,14 @@ module _ (r : ℕ) (ws : List ℕ) (part : r < sum ws) where
         ⊎_elim
         (λ e.
         let one : whole * bit t ≡ whole = ap (λ b. whole * b) (bit-true t e) ∙ mul-one whole in
-        let p = positive i (ltb-true (rank rs i) (missing r ws) e) in
+        let p = positive i (ltb-true (rank rs i) (shortfall r ws) e) in
         (omega arith, omega arith))
         (λ e. let none : whole * bit t ≡ 0 = ap (λ b. whole * b) (bit-false t e) ∙ mul-zero whole in (omega arith, omega arith))
         (cases_Bool t)
 
-pub largest_remainder_exact : Exact largest_remainder_size
+pub largest_remainder_exact : AreExact largest_remainder_size
 largest_remainder_exact = record { all = λ q r ws part. sizes_all r ws part q; near = λ q r ws i part h. sizes_near r ws part q i h }
 
 pub largest_remainder_lawful : Lawful largest_remainder
 unfolding largest_remainder
-largest_remainder_lawful p ws = apportioned largest_remainder_size p ws largest_remainder_exact
+largest_remainder_lawful p ws within = apportioned largest_remainder_size p ws largest_remainder_exact

@@ -1,11 +1,11 @@
 -- The sizes of the running rule are exact. Assumes nothing.
 use Rattle.std.specs.Prelude.{◌≡◌, ℕ, ◌+◌, ◌-◌, ◌*◌, ◌/◌, ◌<◌, ◌≤◌, List, length, take, sum, slice_index}
-use Rattle.std.proofs.Common.{ap, ◌∙◌, le_refl, mul-zero, mul-add, add-mul, mul_comm, mul_assoc, mul-le-mul_left, mod-lt, mul-div_cancel, arith}
+use Rattle.std.proofs.Common.{ap, ◌∙◌, le_refl, mul-zero, mul-add, mul-le-mul_left, mod-lt, mul-div_cancel, arith}
 use Rattle.std.proofs.Math.Nat.{zero-div, div-add-mod}
 use Rattle.sharing.specs.Laws.{Lawful}
-use Rattle.sharing.specs.Running.{earned, running_size, running}
-use Rattle.sharing.specs.Sums.{up_to, up_to_is, sum_more, sum_all, div_mono}
-use Rattle.sharing.specs.BySize.{Exact, apportioned}
+use Rattle.sharing.specs.Running.{earnings, running_size, running}
+use Rattle.sharing.specs.Sums.{up_to, up_to_is, sum_more, sum_all, div_mono, part_split}
+use Rattle.sharing.specs.BySize.{AreExact, apportioned}
 
 -- a place whose weight is w, with b before it and c up to it
 module _ (q r whole : ℕ) (some : 0 < whole) (b c w : ℕ) (next : c ≡ b + w) where
@@ -26,7 +26,7 @@ module _ (q r whole : ℕ) (some : 0 < whole) (b c w : ℕ) (next : c ≡ b + w)
       let lt_b = mod-lt (r * b) some in
       let lt_c = mod-lt (r * c) some in
       let more : r * c ≡ r * b + r * w = ap (λ x. r * x) next ∙ mul-add r b w in
-      let exact : (q * whole + r) * w ≡ whole * (q * w) + r * w = add-mul (q * whole) r w ∙ ap (λ x. x + r * w) (ap (λ x. x * w) (mul_comm q whole) ∙ mul_assoc whole q w) in
+      let exact = part_split q r whole w in
       (omega arith, omega arith)
 
 module _ (q r : ℕ) (ws : List ℕ) (part : r < sum ws) where
@@ -35,7 +35,7 @@ module _ (q r : ℕ) (ws : List ℕ) (part : r < sum ws) where
 
   -- the sizes of the first k
   abbrev reached : ℕ → ℕ
-  reached k = q * sum (take k ws) + earned r ws k
+  reached k = q * sum (take k ws) + earnings r ws k
 
   reached_none : reached 0 ≡ 0
   reached_none = let a : r * 0 / sum ws ≡ 0 = ap (λ n. n / sum ws) (mul-zero r) ∙ zero-div (sum ws) in omega arith
@@ -51,7 +51,7 @@ module _ (q r : ℕ) (ws : List ℕ) (part : r < sum ws) where
   sizes_all : up_to (running_size q r ws) (length ws) ≡ q * sum ws + r
   sizes_all = up_to_is (running_size q r ws) reached (length ws) reached_none reached_more ∙ reached_all
 
-pub running_exact : Exact running_size
+pub running_exact : AreExact running_size
 running_exact =
     record {
       all = sizes_all;
@@ -60,4 +60,4 @@ running_exact =
 
 pub running_lawful : Lawful running
 unfolding running
-running_lawful p ws = apportioned running_size p ws running_exact
+running_lawful p ws within = apportioned running_size p ws running_exact
