@@ -1,3 +1,4 @@
+pub mod NoTag
 pub mod Limits
 pub mod Arrays
 pub mod Intervals

@@ -1,17 +1,17 @@
-// Why the energy of a tie's hour is not shared.
+//! Why a pool is not shared.
 ghost use Rattle.std.specs.Prelude.{◌≡◌};
 
 use sharing::SharingFault;
 
-// The fault of the sharing, whole.
+/// The fault of the sharing of a pool, whole: of the energy of a tie's hour, or of money.
 #[derive(Clone, Copy, PartialEq, Eq, Debug)]
-pub struct DeemedFault(pub SharingFault);
+pub struct PoolFault(pub SharingFault);
 
-// By hand: no contract says what fault a derived `From` makes.
-impl From<SharingFault> for DeemedFault {
+// Written out, since no contract says what fault a derived `From` makes.
+impl From<SharingFault> for PoolFault {
     ghost from_gives = { λ fault r. r.0 ≡ fault };
 
-    fn from(fault: SharingFault) -> DeemedFault {
-        DeemedFault(fault)
+    fn from(fault: SharingFault) -> PoolFault {
+        PoolFault(fault)
     }
 }

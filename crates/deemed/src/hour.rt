@@ -1,52 +1,70 @@
-// A tie's hour: its twelve intervals, which take the energy.
+//! A tie's hour: its twelve settlement intervals.
 ghost use Rattle.std.specs.Prelude.{◌≡◌, length, refl};
 ghost use Rattle.deemed.specs.Ranges.{hour_length};
-ghost use Rattle.deemed.specs.Tags.{weight};
+ghost use Rattle.deemed.specs.Tags.{pool, weights};
 
-use super::fault::DeemedFault;
+use super::fault::PoolFault;
 use super::quantities::Units;
 use super::tag::Tag;
 use sharing::{Recipient, SharingRule, share_out};
 
-// The settlement intervals of an hour.
+/// The settlement intervals of an hour.
 pub const INTERVALS: usize = 12;
 
-// An interval's tag, and the energy that it is deemed to have delivered.
+/// What each interval of a tie's hour weighs.
+pub fn weights(tags: [Tag; INTERVALS]) -> [u32; INTERVALS]
+    ensures weights { result ≡ weights tags }
+    ensures length { INTERVALS ≡ hour_length }
+{
+    tags.map(|tag| tag.weight())
+}
+
+/// The energy that a dynamic tie shares: what the tags of its hour schedule in all, the curtailed ones too.
+#[tactic(auto, using(crate::proofs::Limits::next_fits))]
+pub fn pool(tags: [Tag; INTERVALS]) -> Units
+    ensures { result.0 ≡ pool tags }
+{
+    let mut sum = Units(0);
+    for tag in tags {
+        sum += tag.kw().over_an_interval();
+    }
+    sum
+}
+
+// What an interval weighs, and the energy that it has of the pool.
 #[derive(Clone, Copy)]
 struct Interval {
-    tag: Tag,
+    weight: u32,
     deemed: Units,
 }
 
+/// A dynamic tie's hour: twelve intervals by their weights, among which its energy is shared.
 #[derive(Clone, Copy)]
 pub struct TieHour {
     intervals: [Interval; INTERVALS],
     ghost long: { length intervals ≡ hour_length },
 }
 
-// Each kind of recipient weighs in its own way; what all owe is the trait.
 impl Recipient for Interval {
     type Unit = Units;
 
-    ghost weighs = { λ i. weight i.tag };
+    ghost weighs = { λ i. i.weight };
 
     ghost holds = { λ i. i.deemed };
 
-    ghost having = { λ i u. record { tag = i.tag; deemed = u } };
+    ghost having = { λ i u. record { weight = i.weight; deemed = u } };
 
-    ghost told = { λ x u. refl };
-
-    ghost restored = { λ x u. refl };
-
-    ghost replaced = { λ x u v. refl };
+    ghost tells_back = { λ x u. refl };
 
     ghost steady = { λ x u. refl };
 
     fn weight(&self) -> u32 {
-        self.tag.weight()
+        self.weight
     }
 
-    fn take(&mut self, share: Units) {
+    fn take(&mut self, share: Units)
+        ensures { self.new ≡ record { weight = self.old.weight; deemed = share } }
+    {
         self.deemed = share;
     }
 
@@ -56,47 +74,40 @@ impl Recipient for Interval {
 }
 
 impl TieHour {
-    ghost use Rattle.deemed.specs.Hours.{Opened, units_of, pool_of, weights_of};
-    ghost use Rattle.deemed.specs.Deemed.{Deemed};
+    ghost use Rattle.deemed.specs.Hours.{IsUnshared, units_of, weights_of};
+    ghost use Rattle.deemed.specs.Deemed.{IsShared, IsSharedByTags};
 
-    // An hour with these tags, in which nothing is deemed delivered yet.
-    pub fn new(tags: [Tag; INTERVALS]) -> TieHour
-        ensures hour { Opened tags result }
-        ensures length { INTERVALS ≡ hour_length }
+    /// An hour whose intervals have these weights, and no energy yet.
+    pub fn new(weights: [u32; INTERVALS]) -> TieHour
+        ensures { IsUnshared weights result }
     {
         TieHour {
-            intervals: tags.map(|tag| Interval {
-                tag,
+            intervals: weights.map(|weight| Interval {
+                weight,
                 deemed: Units(0),
             }),
         }
     }
 
-    // The energy that is shared: what the tags schedule in all, curtailed or not.
-    pub fn pool(&self) -> Units
-        ensures { result.0 ≡ pool_of self.now }
+    /// Shares a pool of energy among the intervals by a rule. Pools and weights beyond the limits of sharing are refused by
+    /// 3, and a pool other than 0 with no weight by 8; the hour is then as it was. By the weights of twelve tags, and with
+    /// what these schedule, it is refused only by 8.
+    pub fn share<R: SharingRule>(&mut self, rule: &R, pool: Units) -> Result<(), PoolFault>
+        ensures shared { IsShared (R.SharingRule.shares rule.now) pool.0 self.old self.new result }
+        ensures of_tags { IsSharedByTags (R.SharingRule.shares rule.now) pool.0 self.old self.new result }
     {
-        let scheduled = self.intervals.iter().map(|interval| interval.tag.kw().0);
-        Units(scheduled.sum())
-    }
-
-    // What each interval weighs.
-    pub fn weights(&self) -> [u32; INTERVALS]
-        ensures { result ≡ weights_of self.now }
-    {
-        self.intervals.map(|interval| interval.tag.weight())
-    }
-
-    // Shares the energy of a dynamic tie's hour among its intervals; refused, the hour is as it was.
-    pub fn share<R: SharingRule>(&mut self, rule: &R) -> Result<(), DeemedFault>
-        ensures { Deemed (R.SharingRule.shares rule.now) self.old self.new result }
-    {
-        let pool = self.pool();
         share_out(rule, pool, &mut self.intervals)?;
         Ok(())
     }
 
-    // The deemed energy of each interval.
+    /// What each interval weighs.
+    pub fn weights(&self) -> [u32; INTERVALS]
+        ensures { result ≡ weights_of self.now }
+    {
+        self.intervals.map(|interval| interval.weight)
+    }
+
+    /// The energy of each interval.
     pub fn units(&self) -> [Units; INTERVALS]
         ensures { result ≡ units_of self.now }
     {

@@ -1,4 +1,4 @@
-// The deemed energy of a tie's hour, in whole units for each interval.
+//! The deemed energy of a tie's hour, in whole units for each interval.
 #![tactic(auto)]
 
 mod fault;
@@ -7,8 +7,8 @@ mod quantities;
 mod static_tie;
 mod tag;
 
-pub use fault::DeemedFault;
-pub use hour::{INTERVALS, TieHour};
-pub use quantities::{TelemetrySteps, Units};
+pub use fault::PoolFault;
+pub use hour::{INTERVALS, TieHour, pool, weights};
+pub use quantities::{Kilowatts, TelemetrySteps, Units};
 pub use static_tie::static_units;
 pub use tag::{MOST_KW, MOST_TELEMETRY, Tag};
