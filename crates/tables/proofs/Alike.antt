@@ -62,7 +62,7 @@ module _ {T L : Type 0} (look : T → L) where
 -- a table stays keyed where its ids and its room stay
 pub keyed_alike : {T : Type 0} (key : T → ℕ) (full : ℕ) (t u : Table T) → map key u.rows ≡ map key t.rows → u.most ≡ t.most → Keyed key full t → Keyed key full u
 keyed_alike key full t u ids room h = record {
-  fits = subst₂ (λ n m. n ≤ m) (sym (alike_length key t.rows u.rows ids)) (sym room) h.fits;
+  within_room = subst₂ (λ n m. n ≤ m) (sym (alike_length key t.rows u.rows ids)) (sym room) h.within_room;
   bound = subst (λ m. m ≤ full) (sym room) h.bound;
   ids = alike_all key t.rows u.rows ids (λ k. is_id (pos k) ≡ true) h.ids;
   distinct = alike_pairs key t.rows u.rows ids (λ k l. k ≢ l) h.distinct;

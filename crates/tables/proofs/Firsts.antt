@@ -2,7 +2,7 @@
 use Rattle.std.proofs.Common.{◌≡◌, ◌+◌, ◌<◌, ℕ, true, false, List, [], ◌∷◌, ◌++◌, map, length, take, drop, get_or, Some, None, option_map, refl, sym, ap, ◌∙◌, ⊎_elim, arith}
 use Rattle.std.proofs.lemmas.Bool.{cases_Bool}
 use Rattle.std.proofs.lemmas.List.{map_more, drop_more, take-append-drop, map-append}
-use Rattle.tables.specs.Refusals.{Fit, first_fit, refused_as}
+use Rattle.tables.specs.Refusals.{Fit, first_fit, reason_as}
 
 -- behind those of which none fits
 pub first_fit-append : {R : Type 0} (fs gs : List (Fit R)) → first_fit fs ≡ None → first_fit (fs ++ gs) ≡ first_fit gs
@@ -27,18 +27,18 @@ first_fit-neither (f ∷ fs) gs none =
 
 -- where each reason is told as another, so is the first that fits
 module _ {R S : Type 0} (f : R → S) where
-  pub first_fit-refused_as : (fits : List (Fit R)) → first_fit (map (refused_as f) fits) ≡ option_map f (first_fit fits)
-  first_fit-refused_as [] = refl
-  first_fit-refused_as (x ∷ fits) = ⊎_elim (λ here. rw here refl) (λ here. rw here (first_fit-refused_as fits)) (cases_Bool x.fits)
+  pub first_fit-reason_as : (fits : List (Fit R)) → first_fit (map (reason_as f) fits) ≡ option_map f (first_fit fits)
+  first_fit-reason_as [] = refl
+  first_fit-reason_as (x ∷ fits) = ⊎_elim (λ here. rw here refl) (λ here. rw here (first_fit-reason_as fits)) (cases_Bool x.fits)
 
   -- where none fits, none did
-  pub first_fit-none_told : (fits : List (Fit R)) → first_fit (map (refused_as f) fits) ≡ None → first_fit fits ≡ None
+  pub first_fit-none_told : (fits : List (Fit R)) → first_fit (map (reason_as f) fits) ≡ None → first_fit fits ≡ None
   first_fit-none_told [] none = refl
   first_fit-none_told (x ∷ fits) none =
       let here : x.fits ≡ false = grind (arith, none) in
       rw here (first_fit-none_told fits (grind (arith, none, here)))
 
--- those before the item x at a place do not fit
+-- those before the item x at an index do not fit
 module _ {X R : Type 0} (f : X → Fit R) (xs : List X) (i : ℕ) (x : X) (in' : i < length xs) (is : x ≡ get_or xs i x) (none : first_fit (map f (take i xs)) ≡ None) where
   -- nor does this one
   pub none_more : (f x).fits ≡ false → first_fit (map f (take (i + 1) xs)) ≡ None

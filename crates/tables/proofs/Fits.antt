@@ -2,7 +2,7 @@
 use Rattle.std.proofs.Common.{◌≡◌, refl, true, false, List, [], ◌∷◌, ◌++◌, map, Option, Some, None, ℤ, pos, negsuc, arith}
 use Rattle.std.specs.List.{All}
 use Rattle.std.proofs.lemmas.List.Elements.{All-nil, All-cons}
-use Rattle.tables.specs.Refusals.{Fit, first_fit, left}
+use Rattle.tables.specs.Refusals.{Fit, first_fit, state_after}
 use Rattle.tables.specs.Ranges.{in_range, is_id, as_id}
 
 -- no reason of a list fits
@@ -27,9 +27,9 @@ none_of_each f [] none = All-nil (λ x. (f x).fits ≡ false)
 none_of_each f (x ∷ xs) none = All-cons (λ x. (f x).fits ≡ false) x xs none.0 (none_of_each f xs none.1)
 
 -- what holds of what a call makes, and of what was there, holds of what it leaves
-pub left_either : {R H : Type 0} (P : H → Type 0) (o : Option R) (before made : H) → (o ≡ None → P made) → P before → P (left o made before)
-left_either P None before made f w = f refl
-left_either P (Some r) before made f w = w
+pub state_after_either : {R H : Type 0} (P : H → Type 0) (o : Option R) (before made : H) → (o ≡ None → P made) → P before → P (state_after o made before)
+state_after_either P None before made f w = f refl
+state_after_either P (Some r) before made f w = w
 
 -- a number inside the span is the id that it gives
 pub id_in_span : (z : ℤ) → is_id z ≡ true → is_id (pos (as_id z)) ≡ true

@@ -8,7 +8,7 @@ use Rattle.std.proofs.lemmas.List.Quantifiers.{all_pairs_push}
 use Rattle.std.proofs.lemmas.Grind.{common_steps}
 use Rattle.tables.specs.Ranges.{is_id}
 use Rattle.tables.specs.View.{Table}
-use Rattle.tables.specs.Tables.{found, entered, has_room, with_row}
+use Rattle.tables.specs.Tables.{row_under, is_entered, has_room, with_row}
 use Rattle.tables.specs.Keyed.{Keyed}
 
 module _ {T : Type 0} (p : T → Bool) where
@@ -40,9 +40,9 @@ module _ {T : Type 0} (p : T → Bool) where
 
 module _ {T : Type 0} (key : T → ℕ) (full : ℕ) where
   -- a row with an id that is new
-  pub keyed_push : (t : Table T) (x : T) → has_room t ≡ true → is_id (pos (key x)) ≡ true → entered key (key x) t.rows ≡ false → Keyed key full t → Keyed key full (with_row t x)
+  pub keyed_push : (t : Table T) (x : T) → has_room t ≡ true → is_id (pos (key x)) ≡ true → is_entered key (key x) t.rows ≡ false → Keyed key full t → Keyed key full (with_row t x)
   keyed_push t x room id new h = record {
-    fits = grind (arith, common_steps);
+    within_room = grind (arith, common_steps);
     bound = h.bound;
     ids = All-push (λ x. is_id (pos (key x)) ≡ true) t.rows x h.ids id;
     distinct = all_pairs_push (λ x y. key x ≢ key y) t.rows x h.distinct
@@ -50,5 +50,5 @@ module _ {T : Type 0} (key : T → ℕ) (full : ℕ) where
   }
 
 -- a row with an id that is new is found under it
-pub found_pushed : {T : Type 0} (key : T → ℕ) (rows : List T) (x : T) → entered key (key x) rows ≡ false → found key (key x) (rows ++ x ∷ []) ≡ Some x
+pub found_pushed : {T : Type 0} (key : T → ℕ) (rows : List T) (x : T) → is_entered key (key x) rows ≡ false → row_under key (key x) (rows ++ x ∷ []) ≡ Some x
 found_pushed key rows x new = find-append (λ y. key y == key x) rows (x ∷ []) ∙ grind (arith, new, common_steps)

@@ -6,7 +6,7 @@ use Rattle.tables.specs.View.{Table}
 
 pub record Keyed {T : Type 0} (key : T → ℕ) (full : ℕ) (t : Table T) : Type 0 where
   -- no more rows than there is room for, and room for no more than the full number
-  pub fits : length t.rows ≤ t.most
+  pub within_room : length t.rows ≤ t.most
   pub bound : t.most ≤ full
   -- each row has an id
   pub ids : All (λ x. is_id (pos (key x)) ≡ true) t.rows

@@ -1,4 +1,5 @@
 pub mod Refusals
+pub mod Equality
 pub mod Ranges
 pub mod View
 pub mod Tables

@@ -1,26 +1,31 @@
 -- Rows by their ids, and what is done with a table. Assumes nothing.
-use Rattle.std.specs.Prelude.{◌≡◌, ℕ, ◌+◌, ◌==◌, nat_lt, nat_le, Bool, true, false, List, [], ◌∷◌, ◌++◌, length, take, drop, Option, is_some, find, position, slice_set, Result, Ok, Err}
+use Rattle.std.specs.Prelude.{◌≡◌, ℕ, ◌+◌, ◌==◌, nat_lt, nat_le, Bool, true, false, List, [], ◌∷◌, ◌++◌, length, take, drop}
+use Rattle.std.specs.Prelude.{Option, None, is_some, find, position, slice_set, Result, Ok, Err}
 use Rattle.std.specs.Option.{option_map_or}
 use Rattle.tables.specs.View.{Table}
 use Rattle.tables.specs.declared.refusal.Reason.{Reason}
-use Rattle.tables.specs.declared.refusal.Reason.TheVariants.{Full}
+use Rattle.tables.specs.declared.refusal.Reason.TheVariants.{Full, NotEntered}
 
 module _ {T : Type 0} where
   -- the first row with an id
-  abbrev pub found : (T → ℕ) → ℕ → List T → Option T
-  found key id rows = find (λ x. key x == id) rows
+  abbrev pub row_under : (T → ℕ) → ℕ → List T → Option T
+  row_under key id rows = find (λ x. key x == id) rows
 
-  -- its place, from 0
-  abbrev pub place : (T → ℕ) → ℕ → List T → Option ℕ
-  place key id rows = position (λ x. key x == id) rows
+  -- its position, from 0
+  abbrev pub position_of : (T → ℕ) → ℕ → List T → Option ℕ
+  position_of key id rows = position (λ x. key x == id) rows
 
   -- whether some row has the id
-  abbrev pub entered : (T → ℕ) → ℕ → List T → Bool
-  entered key id rows = is_some (found key id rows)
+  abbrev pub is_entered : (T → ℕ) → ℕ → List T → Bool
+  is_entered key id rows = is_some (row_under key id rows)
+
+  -- a row is not entered: none is found, and the reason says so
+  abbrev pub IsMissing : Option T → Reason → Type 0
+  IsMissing row r = (row ≡ None) × (r ≡ NotEntered)
 
   -- a table with room for so many rows, and none yet
-  abbrev pub opened : ℕ → Table T
-  opened most = record { rows = []; most = most }
+  abbrev pub new_table : ℕ → Table T
+  new_table most = record { rows = []; most = most }
 
   abbrev pub has_room : Table T → Bool
   has_room t = nat_lt (length t.rows) t.most
@@ -38,16 +43,17 @@ module _ {T : Type 0} where
   with_rows t rows = record t { rows = t.rows ++ rows }
 
   -- other rows from the first on, as many as there were
-  unfoldable pub rewritten : Table T → List T → Table T
-  rewritten t rows = record t { rows = take (length t.rows) (rows ++ drop (length rows) t.rows) }
+  unfoldable pub with_first_rows : Table T → List T → Table T
+  with_first_rows t rows = record t { rows = take (length t.rows) (rows ++ drop (length rows) t.rows) }
 
   -- another row in the place of the first with an id
   unfoldable pub with_replaced : (T → ℕ) → ℕ → Table T → T → Table T
-  with_replaced key id t x = record t { rows = option_map_or (λ i. slice_set t.rows i x) (place key id t.rows) t.rows }
+  with_replaced key id t x =
+      record t { rows = option_map_or (λ i. slice_set t.rows i x) (position_of key id t.rows) t.rows }
 
   -- the first row with an id is changed, and no other
-  unfoldable pub changed : (T → ℕ) → ℕ → (T → T) → Table T → Table T
-  changed key id change t = option_map_or (λ x. with_replaced key id t (change x)) (found key id t.rows) t
+  unfoldable pub with_changed : (T → ℕ) → ℕ → (T → T) → Table T → Table T
+  with_changed key id change t = option_map_or (λ x. with_replaced key id t (change x)) (row_under key id t.rows) t
 
   -- a row is added where there is room, and else the table is as it was
   abbrev pub TriedToAdd : T → Table T → Table T → Result (Unit {0}) Reason → Type 0

@@ -1,35 +1,40 @@
-// Why a call is refused, and what the refusal tells.
+//! Why a call is refused, and what the refusal tells.
 ghost use Rattle.std.specs.Prelude.{◌≡◌};
+ghost use Rattle.tables.specs.Equality.{IsExact};
 ghost use Rattle.tables.specs.Refusals.{reason_number, part_number, reason_message};
 
 use std::error::Error;
 use std::fmt;
 
-// The reasons, with their numbers.
+/// Why a call is refused, with the number that the reason is known by.
 #[derive(Clone, Copy, PartialEq, Eq, Debug)]
 pub enum Reason {
-    // input that cannot be read
+    /// Input that cannot be read.
     Malformed = 1,
-    // an id, interval, quarter or line place
+    /// An id, interval, quarter or place of a line outside its span.
     OutsideSpan = 2,
-    // a field, code, kind or type
+    /// A field, code, kind or type outside its values.
     OutsideValues = 3,
+    /// An area, party or resource that is not entered.
     NotEntered = 4,
+    /// An id that is already entered.
     AlreadyEntered = 5,
-    // a second C area, a second party in a W area, a W party where a C party belongs, a tag for a plain resource
-    Misfit = 6,
-    // a table, or the runs
+    /// A second C area, a second party in a W area, a W party where a C party belongs, a tag for a plain
+    /// resource.
+    Incompatible = 6,
+    /// A full table, or no run left.
     Full = 7,
-    // energy of a dynamic tie, and no interval that weighs
+    /// Energy of a dynamic tie, and no interval that weighs.
     NoTieWeight = 8,
-    // an offset, and no demand
+    /// An offset, and no demand.
     NoDemand = 9,
-    // a surcharge of an area, and no party that weighs
+    /// A surcharge of an area, and no party that weighs.
     NoSurchargeWeight = 10,
+    /// More new lines than there is room for.
     LinesFull = 11,
 }
 
-// The parts in which a refusal may arise, with their numbers.
+/// The part in which a refusal arises, with its number.
 #[derive(Clone, Copy, PartialEq, Eq, Debug)]
 pub enum Part {
     Sharing = 1,
@@ -39,13 +44,16 @@ pub enum Part {
     Reader = 5,
 }
 
-// What a call was about, as the call gave it: its interval or quarter, and its first id; 0 where it has none.
+/// What a call was about, as the call gave it: its interval or quarter, and its first id. Each is 0 where it
+/// has none.
 #[derive(Clone, Copy, PartialEq, Eq, Debug)]
 pub struct Place {
     pub interval: i64,
     pub id: i64,
 }
 
+/// Why a call was refused, in which part, and what the call was about. It prints as
+/// `refused 4 part 4 interval 0 id 12`: the numbers of its reason and of its part, and its place.
 #[derive(Clone, Copy, PartialEq, Eq, Debug)]
 pub struct Refusal {
     pub reason: Reason,
@@ -54,14 +62,17 @@ pub struct Refusal {
 }
 
 impl Reason {
-    // The number that the refusal is known by. By a cast: no conversion of the library tells it.
+    /// The number that the reason is known by, from 1 to 11.
     pub fn number(self) -> u8
-        ensures { result ≡ reason_number self }
+        ensures number { result ≡ reason_number self }
+        ensures reasons { IsExact ⟦<Reason as PartialEq>⟧.eq ⟦<Reason as Clone>⟧.is_clone }
+        ensures places { IsExact ⟦<Place as PartialEq>⟧.eq ⟦<Place as Clone>⟧.is_clone }
+        ensures refusals { IsExact ⟦<Refusal as PartialEq>⟧.eq ⟦<Refusal as Clone>⟧.is_clone }
     {
         self as u8
     }
 
-    // The reason in words.
+    /// The reason in words.
     pub fn message(self) -> &'static str
         ensures { result.now ≡ reason_message self }
     {
@@ -71,7 +82,7 @@ impl Reason {
             Reason::OutsideValues => "a field, code, kind or type outside its values",
             Reason::NotEntered => "an area, party or resource that is not entered",
             Reason::AlreadyEntered => "an id that is already entered",
-            Reason::Misfit => "an area, party or resource that does not fit there",
+            Reason::Incompatible => "an area, party or resource that does not fit there",
             Reason::Full => "a full table, or no run left",
             Reason::NoTieWeight => "energy of a tie and no interval to share it by",
             Reason::NoDemand => "an offset and no demand to share it by",
@@ -82,14 +93,16 @@ impl Reason {
 }
 
 impl Part {
+    /// The number that the part is known by, from 1 to 5.
     pub fn number(self) -> u8
-        ensures { result ≡ part_number self }
+        ensures number { result ≡ part_number self }
+        ensures parts { IsExact ⟦<Part as PartialEq>⟧.eq ⟦<Part as Clone>⟧.is_clone }
     {
         self as u8
     }
 }
 
-// By hand: what a derive prints is known to no contract.
+/// Prints the reason in words.
 impl fmt::Display for Reason {
     ghost use Rattle.std.specs.Prelude.{Some};
     ghost use Rattle.tables.specs.Refusals.{reason_message};
@@ -102,6 +115,7 @@ impl fmt::Display for Reason {
     }
 }
 
+/// Prints the place, as `interval 3 id 12`.
 impl fmt::Display for Place {
     ghost use Rattle.std.specs.Prelude.{Some};
     ghost use Rattle.tables.specs.Refusals.{place_text};
@@ -114,6 +128,7 @@ impl fmt::Display for Place {
     }
 }
 
+/// Prints the refusal on one line.
 impl fmt::Display for Refusal {
     ghost use Rattle.std.specs.Prelude.{Some};
     ghost use Rattle.tables.specs.Refusals.{refusal_text};
