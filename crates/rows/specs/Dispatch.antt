@@ -2,12 +2,16 @@
 use Rattle.std.specs.Prelude.{ℕ, Bool, true, false, List, [], ◌∷◌, Option, Some, None, codes}
 use Rattle.std.specs.Option.{option_map_or}
 use Rattle.rows.specs.declared.dispatch.DispatchType.{DispatchType}
-use Rattle.rows.specs.declared.dispatch.DispatchType.TheVariants.{SysEmr, SysEmr1, Temr, TModel, TModel1, TModel2, TModel3, TModel4, TModel5, TModel6, TModel7, TModel8, TModel9, TorEtc, TorEtc1, RmrR, RmrS, RmrT, Slic, Other, NonTMod, AsTest, Test}
+use Rattle.rows.specs.declared.dispatch.DispatchType.TheVariants.{SysEmr, SysEmr1, Temr}
+use Rattle.rows.specs.declared.dispatch.DispatchType.TheVariants.{TModel, TModel1, TModel2, TModel3, TModel4}
+use Rattle.rows.specs.declared.dispatch.DispatchType.TheVariants.{TModel5, TModel6, TModel7, TModel8, TModel9}
+use Rattle.rows.specs.declared.dispatch.DispatchType.TheVariants.{TorEtc, TorEtc1, RmrR, RmrS, RmrT, Slic, Other}
+use Rattle.rows.specs.declared.dispatch.DispatchType.TheVariants.{NonTMod, AsTest, Test}
 use Rattle.rows.specs.declared.dispatch.DispatchClass.{DispatchClass}
 use Rattle.rows.specs.declared.dispatch.DispatchClass.TheVariants.{First, Second}
 use Rattle.rows.specs.declared.dispatch.DispatchWord.{DispatchWord}
 use Rattle.rows.specs.declared.dispatch.DispatchWord.TheVariants.{Absent, Named, Unknown}
-use Rattle.rows.specs.Named.{named}
+use Rattle.rows.specs.Named.{kind_by_word}
 
 abbrev pub type_word : DispatchType → List ℕ
 type_word SysEmr = codes "SYSEMR"
@@ -50,7 +54,7 @@ dispatch_class Test = Second
 dispatch_class _ = First
 
 abbrev pub dispatch_type : List ℕ → Option DispatchType
-dispatch_type word = named type_word dispatch_types word
+dispatch_type word = kind_by_word type_word dispatch_types word
 
 -- what a word says of the dispatch type, where there is one
 abbrev pub dispatch_word : Option (List ℕ) → DispatchWord
@@ -58,10 +62,10 @@ dispatch_word None = Absent
 dispatch_word (Some word) = option_map_or Named (dispatch_type word) Unknown
 
 -- whether it is absent, or names a type
-abbrev pub dispatch_fits : DispatchWord → Bool
-dispatch_fits Absent = true
-dispatch_fits (Named kind) = true
-dispatch_fits Unknown = false
+abbrev pub is_known_type : DispatchWord → Bool
+is_known_type Absent = true
+is_known_type (Named kind) = true
+is_known_type Unknown = false
 
 -- the type that it names
 abbrev pub as_dispatch : DispatchWord → Option DispatchType

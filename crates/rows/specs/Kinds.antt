@@ -5,7 +5,7 @@ use Rattle.rows.specs.declared.kinds.AreaKind.{AreaKind}
 use Rattle.rows.specs.declared.kinds.AreaKind.TheVariants.{Ciso, Weim}
 use Rattle.rows.specs.declared.kinds.ResourceKind.{ResourceKind}
 use Rattle.rows.specs.declared.kinds.ResourceKind.TheVariants.{Plain, StaticTie, DynamicTie}
-use Rattle.rows.specs.Named.{named}
+use Rattle.rows.specs.Named.{kind_by_word}
 
 abbrev pub area_word : AreaKind → List ℕ
 area_word Ciso = codes "C"
@@ -17,10 +17,10 @@ resource_word StaticTie = codes "S"
 resource_word DynamicTie = codes "D"
 
 abbrev pub area_kind : List ℕ → Option AreaKind
-area_kind word = named area_word (Ciso ∷ Weim ∷ []) word
+area_kind word = kind_by_word area_word (Ciso ∷ Weim ∷ []) word
 
 abbrev pub resource_kind : List ℕ → Option ResourceKind
-resource_kind word = named resource_word (Plain ∷ StaticTie ∷ DynamicTie ∷ []) word
+resource_kind word = kind_by_word resource_word (Plain ∷ StaticTie ∷ DynamicTie ∷ []) word
 
 abbrev pub is_ciso : AreaKind → Bool
 is_ciso Ciso = true

@@ -8,3 +8,4 @@ pub mod Codes
 pub mod Rows
 pub mod Posts
 pub mod Posted
+pub mod Records

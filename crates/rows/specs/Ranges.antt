@@ -5,7 +5,7 @@ use Rattle.std.specs.Prelude.{ℕ}
 abbrev pub most_price : ℕ
 most_price = 500000000
 
--- in units, either way
+-- in units, either way, and of power in kW
 abbrev pub most_energy : ℕ
 most_energy = 10000000
 

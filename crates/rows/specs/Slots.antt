@@ -17,15 +17,15 @@ is_interval z = is_slot hour_length z
 abbrev pub is_quarter : ℤ → Bool
 is_quarter z = is_slot quarters z
 
--- its place, from 0
-abbrev pub slot_place : ℤ → ℕ
-slot_place z = unsigned_abs z - 1
+-- its index, from 0
+abbrev pub slot_index : ℤ → ℕ
+slot_index z = unsigned_abs z - 1
 
--- interval i lies in quarter (i + 2) / 3; here by their places
+-- interval i lies in quarter (i + 2) / 3; here by their indexes
 abbrev pub quarter_of : ℕ → ℕ
-quarter_of place = (place + 1 + 2) / 3 - 1
+quarter_of index = (index + 1 + 2) / 3 - 1
 
 -- the slot with this number, where there is one
-abbrev pub Numbered : (count : ℕ) → ℤ → Result (Slot count) Reason → Type 0
-Numbered count z (Ok s) = (is_slot count z ≡ true) × (s.place ≡ slot_place z)
-Numbered count z (Err r) = (is_slot count z ≡ false) × (r ≡ OutsideSpan)
+abbrev pub IsNumbered : (count : ℕ) → ℤ → Result (Slot count) Reason → Type 0
+IsNumbered count z (Ok s) = (is_slot count z ≡ true) × (s.index ≡ slot_index z)
+IsNumbered count z (Err r) = (is_slot count z ≡ false) × (r ≡ OutsideSpan)

@@ -1,11 +1,13 @@
-// The types of exceptional dispatch, and the words that name them.
-ghost use Rattle.std.specs.Prelude.{◌≡◌, Some, bytes_eq, option_map};
-ghost use Rattle.tables.specs.Refusals.{Tested};
+//! The types of exceptional dispatch, and the words that name them.
+ghost use Rattle.std.specs.Prelude.{◌≡◌, Some, option_map};
+ghost use Rattle.tables.specs.Refusals.{IsTested};
 ghost use Rattle.tables.specs.declared.refusal.Reason.TheVariants.{OutsideValues};
-ghost use Rattle.rows.specs.Dispatch.{dispatch_class, dispatch_type, dispatch_types, dispatch_word, type_word, dispatch_fits, as_dispatch};
+ghost use Rattle.rows.specs.Dispatch.{dispatch_class, dispatch_type, dispatch_types, dispatch_word};
+ghost use Rattle.rows.specs.Dispatch.{as_dispatch, is_known_type, type_word};
 
-use tables::Reason;
+use tables::{Reason, same_word};
 
+/// The type of an exceptional dispatch: an order of the market operator outside the market's own dispatch.
 #[derive(Clone, Copy, PartialEq, Eq, Debug)]
 pub enum DispatchType {
     // of the first class
@@ -35,31 +37,25 @@ pub enum DispatchType {
     Test,
 }
 
-// Which price an exceptional dispatch has goes by the class of its type.
+/// The class of a type. Which price an exceptional dispatch has goes by it.
 #[derive(Clone, Copy, PartialEq, Eq, Debug)]
 pub enum DispatchClass {
     First,
     Second,
 }
 
-// What a post says of the dispatch type.
+/// What a post says of the dispatch type.
 #[derive(Clone, Copy, PartialEq, Eq, Default, Debug)]
 pub enum DispatchWord {
     #[default]
     Absent,
     Named(DispatchType),
-    // a word that names no type
+    /// A word that names no type.
     Unknown,
 }
 
-// Whether a word is a name.
-fn same(word: &[u8], name: &[u8]) -> bool
-    ensures { result ≡ bytes_eq name.now word.now }
-{
-    word == name
-}
-
 impl DispatchType {
+    /// All types.
     pub const ALL: [DispatchType; 23] = [
         DispatchType::SysEmr,
         DispatchType::SysEmr1,
@@ -86,7 +82,7 @@ impl DispatchType {
         DispatchType::Test,
     ];
 
-    // The word that names the type, and no other.
+    /// The word that names the type, and no other.
     pub fn name(self) -> &'static [u8]
         ensures word { result.now ≡ type_word self }
         ensures own { dispatch_type result.now ≡ Some self }
@@ -118,6 +114,7 @@ impl DispatchType {
         }
     }
 
+    /// The class of the type.
     pub fn class(self) -> DispatchClass
         ensures { result ≡ dispatch_class self }
     {
@@ -128,7 +125,7 @@ impl DispatchType {
         }
     }
 
-    // The type that a word names.
+    /// The type that a word names, if it names one.
     pub fn named(word: &[u8]) -> Option<DispatchType>
         ensures kind { result ≡ dispatch_type word.now }
         ensures all { DispatchType.ALL ≡ dispatch_types }
@@ -136,12 +133,12 @@ impl DispatchType {
         DispatchType::ALL
             .iter()
             .copied()
-            .find(|kind| same(word, kind.name()))
+            .find(|kind| same_word(word, kind.name()))
     }
 }
 
 impl DispatchWord {
-    // What a word says, where there is one.
+    /// What a word says, where there is one.
     pub fn of(word: Option<&[u8]>) -> DispatchWord
         ensures { result ≡ dispatch_word (option_map (λ w. w.now) word.entry) }
     {
@@ -154,9 +151,9 @@ impl DispatchWord {
         }
     }
 
-    // The type that it names, if it is there and names one.
+    /// The type that it names, or none where it is absent; `OutsideValues` for a word that names no type.
     pub fn read(self) -> Result<Option<DispatchType>, Reason>
-        ensures { Tested (dispatch_fits self) (as_dispatch self) OutsideValues result }
+        ensures { IsTested (is_known_type self) (as_dispatch self) OutsideValues result }
     {
         match self {
             DispatchWord::Absent => Ok(None),

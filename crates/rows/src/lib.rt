@@ -1,4 +1,4 @@
-// The rows of an hour's records: areas, parties and resources, with what is posted for each.
+//! The rows of an hour's records: areas, parties and resources, with what is posted for each.
 #![tactic(auto)]
 
 mod area;
@@ -6,6 +6,7 @@ mod dispatch;
 mod figures;
 mod given;
 mod kinds;
+mod limits;
 mod party;
 mod posts;
 mod resource;
@@ -14,11 +15,11 @@ mod slot;
 pub use area::{Area, Election, SufficiencyTest, Transfer};
 pub use dispatch::{DispatchClass, DispatchType, DispatchWord};
 pub use figures::{
-    BidCap, Cents, DeemedEnergy, Energy, GivenAmount, MOST_DEEMED, MOST_ENERGY, MOST_GIVEN,
-    MOST_PRICE, Price, PriceSteps, Volume,
+    BidCap, Cents, DeemedEnergy, Energy, GivenAmount, Power, Price, PriceSteps, UnsignedEnergy,
 };
 pub use given::GivenCode;
 pub use kinds::{AreaKind, ResourceKind};
+pub use limits::{MOST_DEEMED, MOST_ENERGY, MOST_GIVEN, MOST_PRICE};
 pub use party::{GivenAmounts, Party};
 pub use posts::{ElectionPost, EnergyPost, TagPost, TestPost, TransferPost};
 pub use resource::{EnergyRecord, Resource};

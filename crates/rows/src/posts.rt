@@ -1,72 +1,100 @@
-// What is posted for a row, as it is said, and the records that posts make.
+//! What is posted for a row, as it is said, and the records that posts make. A post takes any numbers: one
+//! outside its range is refused where the post is read.
 use super::area::{Election, SufficiencyTest, Transfer};
 use super::dispatch::DispatchWord;
-use super::figures::{BidCap, Energy, Price, Volume};
+use super::figures::{BidCap, Energy, Power, Price, PriceSteps, UnsignedEnergy};
 use super::resource::EnergyRecord;
-use deemed::{MOST_TELEMETRY, Tag, TelemetrySteps, Units};
-use tables::{Reason, flag_of, ranged};
+use deemed::{Kilowatts, Tag, TelemetrySteps, Units};
+use tables::{Reason, flag_of};
 
-// The prices and energies of a resource in an interval.
+/// The prices and energies of a resource in an interval.
 #[derive(Clone, Copy, PartialEq, Eq, Default, Debug)]
 pub struct EnergyPost {
-    pub lmp: i64,
-    pub mss: i64,
-    pub resprice: i64,
-    pub edprice: i64,
-    pub iie: i64,
-    pub oa: i64,
-    pub mssiie: i64,
-    pub res: i64,
-    pub above: i64,
-    pub edqty: i64,
+    /// The locational marginal price of real-time dispatch.
+    pub lmp: PriceSteps,
+    /// The price of a metered subsystem (MSS): a utility that serves its own load with its own resources.
+    pub mss: PriceSteps,
+    /// The bid price that led to the residual imbalance energy.
+    pub resprice: PriceSteps,
+    /// The price of an exceptional dispatch.
+    pub edprice: PriceSteps,
+    /// Instructed imbalance energy that has the energy price.
+    pub iie: Units,
+    /// Of a plain resource the operational adjustment; of a tie the energy that was expected of it.
+    pub oa: Units,
+    /// Load following energy of a metered subsystem.
+    pub mssiie: Units,
+    /// Residual imbalance energy: of a resource on its way to or from the dispatch of a neighbouring hour.
+    pub res: Units,
+    /// Residual imbalance energy above what was forecast of an intermittent resource, at the energy price.
+    pub above: Units,
+    /// The energy of an exceptional dispatch.
+    pub edqty: Units,
+    /// 1 where `res` has the price `resprice`, 0 where it has the energy price.
     pub resflag: i64,
+    /// The type of an exceptional dispatch.
     pub ed: DispatchWord,
 }
 
-// The tag of a tie in an interval.
+/// The tag of a tie in an interval.
 #[derive(Clone, Copy, PartialEq, Eq, Default, Debug)]
 pub struct TagPost {
-    pub kw: i64,
-    pub telemetry: i64,
+    /// The power that the tag schedules.
+    pub kw: Kilowatts,
+    /// What the meter told of the interval.
+    pub telemetry: TelemetrySteps,
+    /// 1 where the tag was curtailed, else 0.
     pub curtailed: i64,
 }
 
-// The election of an area.
+/// The election of an area: whether it takes part in assistance energy transfers.
 #[derive(Clone, Copy, PartialEq, Eq, Default, Debug)]
 pub struct ElectionPost {
+    /// 1 where the area has opted in, else 0.
     pub opted_in: i64,
-    pub cap: i64,
-    pub up: i64,
-    pub nopay: i64,
+    /// The bid cap, at which the surcharge is priced.
+    pub cap: PriceSteps,
+    /// Upward regulation of the hour, or the like of a W area, which is to its credit.
+    pub up: Kilowatts,
+    /// What of this is not paid.
+    pub nopay: Kilowatts,
 }
 
-// The sufficiency test of an area in a quarter.
+/// By how much an area failed the upward resource sufficiency tests of a quarter.
 #[derive(Clone, Copy, PartialEq, Eq, Default, Debug)]
 pub struct TestPost {
-    pub capacity: i64,
-    pub ramp: i64,
-    pub nopay: i64,
+    /// What it lacked in the capacity test.
+    pub capacity: Kilowatts,
+    /// What it lacked in the flexible ramping test.
+    pub ramp: Kilowatts,
+    /// Upward regulation of the quarter that is not paid.
+    pub nopay: Kilowatts,
 }
 
-// The transfers of an area in an interval.
+/// The dynamic transfers of an area with other areas in an interval, as tagged, and their base schedules.
 #[derive(Clone, Copy, PartialEq, Eq, Default, Debug)]
 pub struct TransferPost {
-    pub to: i64,
-    pub base_to: i64,
-    pub from: i64,
-    pub base_from: i64,
+    /// Energy transferred to the area.
+    pub to: Units,
+    /// What of it was in the base schedules.
+    pub base_to: Units,
+    /// Energy transferred from the area.
+    pub from: Units,
+    /// What of it was in the base schedules.
+    pub base_from: Units,
 }
 
 impl EnergyPost {
-    ghost use Rattle.tables.specs.Refusals.{Tested};
+    ghost use Rattle.tables.specs.Refusals.{IsTested};
     ghost use Rattle.tables.specs.declared.refusal.Reason.TheVariants.{OutsideValues};
     ghost use Rattle.rows.specs.Figures.{as_price, as_energy};
-    ghost use Rattle.rows.specs.Posts.{energy_fits, prices_fit, energies_fit, special_energies_fit, energy_record};
+    ghost use Rattle.rows.specs.Posts.{energies_in_range, energy_in_range, energy_record, prices_in_range};
+    ghost use Rattle.rows.specs.Posts.{special_energies_in_range};
 
-    // The record that the post makes.
-    #[tactic(auto, unfolding(crate::specs::Posts::energy_fits, crate::specs::Posts::energy_record))]
+    /// The record that the post makes, where all that it says is inside its values; else `OutsideValues`.
+    #[tactic(auto, unfolding(crate::specs::Posts::energy_in_range, crate::specs::Posts::energy_record))]
     pub fn read(self) -> Result<EnergyRecord, Reason>
-        ensures { Tested (energy_fits self) (energy_record self) OutsideValues result }
+        ensures { IsTested (energy_in_range self) (energy_record self) OutsideValues result }
     {
         let (lmp, mss, resprice, edprice) = self.prices()?;
         let (iie, oa, mssiie, above) = self.energies()?;
@@ -87,9 +115,11 @@ impl EnergyPost {
         })
     }
 
-    #[tactic(auto, unfolding(crate::specs::Posts::prices_fit))]
+    #[tactic(auto, unfolding(crate::specs::Posts::prices_in_range))]
     fn prices(self) -> Result<(Price, Price, Price, Price), Reason>
-        ensures { Tested (prices_fit self) (as_price self.lmp, as_price self.mss, as_price self.resprice, as_price self.edprice) OutsideValues result }
+        ensures { IsTested (prices_in_range self)
+            (as_price self.lmp, as_price self.mss, as_price self.resprice, as_price self.edprice)
+            OutsideValues result }
     {
         Ok((
             Price::of(self.lmp)?,
@@ -99,10 +129,12 @@ impl EnergyPost {
         ))
     }
 
-    // What is settled at one price, the resource's energy price: iie, oa, mssiie and above.
-    #[tactic(auto, unfolding(crate::specs::Posts::energies_fit))]
+    // what is priced at the resource's energy price
+    #[tactic(auto, unfolding(crate::specs::Posts::energies_in_range))]
     fn energies(self) -> Result<(Energy, Energy, Energy, Energy), Reason>
-        ensures { Tested (energies_fit self) (as_energy self.iie, as_energy self.oa, as_energy self.mssiie, as_energy self.above) OutsideValues result }
+        ensures { IsTested (energies_in_range self)
+            (as_energy self.iie, as_energy self.oa, as_energy self.mssiie, as_energy self.above)
+            OutsideValues result }
     {
         Ok((
             Energy::of(self.iie)?,
@@ -112,86 +144,84 @@ impl EnergyPost {
         ))
     }
 
-    // What is settled at a price of its own: res and edqty.
-    #[tactic(auto, unfolding(crate::specs::Posts::special_energies_fit))]
+    // what is priced at a price of its own
+    #[tactic(auto, unfolding(crate::specs::Posts::special_energies_in_range))]
     fn special_energies(self) -> Result<(Energy, Energy), Reason>
-        ensures { Tested (special_energies_fit self) (as_energy self.res, as_energy self.edqty) OutsideValues result }
+        ensures { IsTested (special_energies_in_range self)
+            (as_energy self.res, as_energy self.edqty)
+            OutsideValues result }
     {
         Ok((Energy::of(self.res)?, Energy::of(self.edqty)?))
     }
 }
 
 impl TagPost {
-    ghost use Rattle.tables.specs.Refusals.{Tested};
+    ghost use Rattle.tables.specs.Refusals.{IsTested};
     ghost use Rattle.tables.specs.declared.refusal.Reason.TheVariants.{OutsideValues};
-    ghost use Rattle.rows.specs.Posts.{tag_fits, tag_record};
+    ghost use Rattle.rows.specs.Posts.{tag_in_range, tag_record};
 
-    #[tactic(auto, unfolding(crate::specs::Posts::tag_fits, crate::specs::Posts::tag_record, deemed::specs::Tags::as_tag, crate::specs::Figures::either_way, tables::specs::Ranges::in_range))]
+    /// The tag that the post makes, where all that it says is inside its values; else `OutsideValues`.
+    #[tactic(auto, unfolding(crate::specs::Posts::tag_in_range, crate::specs::Posts::tag_record))]
     pub fn read(self) -> Result<Tag, Reason>
-        ensures { Tested (tag_fits self) (tag_record self) OutsideValues result }
+        ensures { IsTested (tag_in_range self) (tag_record self) OutsideValues result }
     {
-        let telemetry = ranged(
-            0,
-            i64::from(MOST_TELEMETRY),
-            self.telemetry,
-            Reason::OutsideValues,
-        )?;
         let curtailed = flag_of(self.curtailed)?;
-        Tag::new(Units(self.kw), TelemetrySteps(telemetry as u32), curtailed).ok_or(
-            Reason::OutsideValues,
-        )
+        Tag::new(self.kw, self.telemetry, curtailed).ok_or(Reason::OutsideValues)
     }
 }
 
 impl ElectionPost {
-    ghost use Rattle.tables.specs.Refusals.{Tested};
+    ghost use Rattle.tables.specs.Refusals.{IsTested};
     ghost use Rattle.tables.specs.declared.refusal.Reason.TheVariants.{OutsideValues};
-    ghost use Rattle.rows.specs.Posts.{election_fits, election_record};
+    ghost use Rattle.rows.specs.Posts.{election_in_range, election_record};
 
-    #[tactic(auto, unfolding(crate::specs::Posts::election_fits, crate::specs::Posts::election_record))]
+    /// The record that the post makes, where all that it says is inside its values; else `OutsideValues`.
+    #[tactic(auto, unfolding(crate::specs::Posts::election_in_range, crate::specs::Posts::election_record))]
     pub fn read(self) -> Result<Election, Reason>
-        ensures { Tested (election_fits self) (election_record self) OutsideValues result }
+        ensures { IsTested (election_in_range self) (election_record self) OutsideValues result }
     {
         Ok(Election {
             opted_in: flag_of(self.opted_in)?,
             cap: BidCap::of(self.cap)?,
-            up: Volume::of(self.up)?,
-            nopay: Volume::of(self.nopay)?,
+            up: Power::of(self.up)?,
+            nopay: Power::of(self.nopay)?,
         })
     }
 }
 
 impl TestPost {
-    ghost use Rattle.tables.specs.Refusals.{Tested};
+    ghost use Rattle.tables.specs.Refusals.{IsTested};
     ghost use Rattle.tables.specs.declared.refusal.Reason.TheVariants.{OutsideValues};
-    ghost use Rattle.rows.specs.Posts.{test_fits, test_record};
+    ghost use Rattle.rows.specs.Posts.{test_in_range, test_record};
 
-    #[tactic(auto, unfolding(crate::specs::Posts::test_fits, crate::specs::Posts::test_record))]
+    /// The record that the post makes, where all that it says is inside its values; else `OutsideValues`.
+    #[tactic(auto, unfolding(crate::specs::Posts::test_in_range, crate::specs::Posts::test_record))]
     pub fn read(self) -> Result<SufficiencyTest, Reason>
-        ensures { Tested (test_fits self) (test_record self) OutsideValues result }
+        ensures { IsTested (test_in_range self) (test_record self) OutsideValues result }
     {
         Ok(SufficiencyTest {
-            capacity: Volume::of(self.capacity)?,
-            ramp: Volume::of(self.ramp)?,
-            nopay: Volume::of(self.nopay)?,
+            capacity: Power::of(self.capacity)?,
+            ramp: Power::of(self.ramp)?,
+            nopay: Power::of(self.nopay)?,
         })
     }
 }
 
 impl TransferPost {
-    ghost use Rattle.tables.specs.Refusals.{Tested};
+    ghost use Rattle.tables.specs.Refusals.{IsTested};
     ghost use Rattle.tables.specs.declared.refusal.Reason.TheVariants.{OutsideValues};
-    ghost use Rattle.rows.specs.Posts.{transfer_fits, transfer_record};
+    ghost use Rattle.rows.specs.Posts.{transfer_in_range, transfer_record};
 
-    #[tactic(auto, unfolding(crate::specs::Posts::transfer_fits, crate::specs::Posts::transfer_record))]
+    /// The record that the post makes, where all that it says is inside its values; else `OutsideValues`.
+    #[tactic(auto, unfolding(crate::specs::Posts::transfer_in_range, crate::specs::Posts::transfer_record))]
     pub fn read(self) -> Result<Transfer, Reason>
-        ensures { Tested (transfer_fits self) (transfer_record self) OutsideValues result }
+        ensures { IsTested (transfer_in_range self) (transfer_record self) OutsideValues result }
     {
         Ok(Transfer {
-            to: Volume::of(self.to)?,
-            base_to: Volume::of(self.base_to)?,
-            from: Volume::of(self.from)?,
-            base_from: Volume::of(self.base_from)?,
+            to: UnsignedEnergy::of(self.to)?,
+            base_to: UnsignedEnergy::of(self.base_to)?,
+            from: UnsignedEnergy::of(self.from)?,
+            base_from: UnsignedEnergy::of(self.base_from)?,
         })
     }
 }
