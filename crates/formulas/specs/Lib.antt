@@ -1,4 +1,5 @@
 pub mod Ranges
+pub mod Working
 pub mod Rounding
 pub mod Dispatch
 pub mod Imbalance

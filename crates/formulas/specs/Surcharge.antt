@@ -1,7 +1,8 @@
--- CC 6476: the surcharge of an area in an interval. Assumes nothing.
+-- CC 6476: the surcharge of an area on assistance energy transfers, which cover what it lacks in its tests. A kW over an interval
+-- is a unit. Assumes nothing.
 use Rattle.std.specs.Prelude.{ℕ, cond, ℤ, pos, ◌+ℤ◌, ◌-ℤ◌, ◌*ℤ◌, int_lt}
 use Rattle.std.specs.Int.{int_max}
-use Rattle.rows.specs.declared.figures.Volume.{Volume}
+use Rattle.rows.specs.declared.figures.UnsignedEnergy.{UnsignedEnergy}
 use Rattle.rows.specs.declared.area.Election.{Election}
 use Rattle.rows.specs.declared.area.SufficiencyTest.{SufficiencyTest}
 use Rattle.rows.specs.declared.area.Transfer.{Transfer}
@@ -10,21 +11,21 @@ use Rattle.rows.specs.Slots.{quarter_of}
 use Rattle.rows.specs.Posted.{test_at, transfer_at}
 use Rattle.formulas.specs.Rounding.{to_cents}
 
--- F, by how much the area failed its tests: the larger of capacity and ramp. A kW over an interval is a unit
+-- F, by how much the area failed its tests: the larger of capacity and ramp
 abbrev pub failed_capacity : SufficiencyTest → ℤ
-failed_capacity t = int_max t.capacity.units.0 t.ramp.units.0
+failed_capacity t = int_max t.capacity.kilowatts.0 t.ramp.kilowatts.0
 
 -- what was transferred beyond the base schedules
-abbrev pub beyond_base : Volume → Volume → ℤ
+abbrev pub beyond_base : UnsignedEnergy → UnsignedEnergy → ℤ
 beyond_base transferred base = transferred.units.0 -ℤ base.units.0
 
 -- T, what was transferred to the area, less what was transferred from it
 abbrev pub transferred : Transfer → ℤ
 transferred t = beyond_base t.to t.base_to -ℤ beyond_base t.from t.base_from
 
--- what is not charged: up, less nopay of the election and of the test
+-- the credit, what is not charged: up, less nopay of the election and of the test
 abbrev pub credit : Election → SufficiencyTest → ℤ
-credit e t = e.up.units.0 -ℤ (e.nopay.units.0 +ℤ t.nopay.units.0)
+credit e t = e.up.kilowatts.0 -ℤ (e.nopay.kilowatts.0 +ℤ t.nopay.kilowatts.0)
 
 -- the energy that is charged to an area that is in: T less the credit where T is below F, else F
 abbrev pub surcharge_quantity : Election → SufficiencyTest → Transfer → ℤ
@@ -39,4 +40,4 @@ surcharge_pool e test transfer = to_cents (e.cap.steps.0 *ℤ surcharge_quantity
 
 -- the area's pool for an interval
 abbrev pub area_pool : ℕ → Area → ℤ
-area_pool place a = surcharge_pool a.election (test_at (quarter_of place) a) (transfer_at place a)
+area_pool index a = surcharge_pool a.election (test_at (quarter_of index) a) (transfer_at index a)

@@ -1,6 +1,6 @@
-// The price of exceptional dispatches.
+//! The price of exceptional dispatches: of energy that the operator orders by hand, outside the market's schedule.
 ghost use Rattle.std.specs.Prelude.{◌≡◌, ◌≤◌, unsigned_abs};
-ghost use Rattle.formulas.specs.Ranges.{most_product};
+ghost use Rattle.formulas.specs.Working.{most_product};
 ghost use Rattle.formulas.specs.Dispatch.{dispatch_price, exceptional_dispatch, higher, lower};
 
 use super::products::Products;

@@ -1,4 +1,4 @@
-// The formulas of the charges: what a resource and an area are charged for an interval.
+//! The formulas of the charges: what a resource and an area are charged for an interval.
 #![tactic(auto)]
 
 mod dispatch;
