@@ -7,21 +7,22 @@ use Rattle.std.proofs.lemmas.List.Elements.{All-push, All-weaker}
 use Rattle.std.proofs.lemmas.List.Sums.{sum_by_push}
 use Rattle.tables.specs.Refusals.{first_fit}
 use Rattle.tables.specs.Ranges.{as_id, flag}
-use Rattle.tables.proofs.Fits.{none_fits, left_either, id_in_span}
+use Rattle.tables.proofs.Fits.{none_fits, state_after_either, id_in_span}
 use Rattle.tables.proofs.Pushed.{find_kept, count_none, none_of_any, keyed_push}
 use Rattle.rows.specs.declared.kinds.AreaKind.{AreaKind}
 use Rattle.rows.specs.declared.kinds.ResourceKind.{ResourceKind}
 use Rattle.rows.specs.declared.party.Party.{Party}
 use Rattle.records.specs.declared.call.Call.{Call}
 use Rattle.records.specs.declared.call.Call.TheVariants.{EnterArea, EnterParty, EnterResource, PostEnergy, PostTag, PostElection, PostTest, PostTransfer, PostDemand, PostGiven}
-use Rattle.records.specs.declared.hour.Hour.{Hour}
+use Rattle.records.specs.View.{Hour}
 use Rattle.rows.specs.Kinds.{is_ciso}
 use Rattle.records.specs.Ranges.{most_areas, most_parties, most_resources}
-use Rattle.rows.specs.Rows.{new_area, new_party, new_resource, WholeArea, WholeParty, WholeResource}
+use Rattle.rows.specs.Rows.{new_area, new_party, new_resource, IsWholeArea, IsWholeParty, IsWholeResource}
+use Rattle.rows.proofs.Records.{no_nopay}
 use Rattle.rows.proofs.Whole.{whole_area, whole_party, whole_resource}
 use Rattle.records.specs.Hours.{area_id, party_id, resource_id, area_of, party_of, area_is_ciso, area_is_weim, party_is_of_ciso, any_ciso, any_party_in}
-use Rattle.records.specs.Calls.{reasons, made_by, left_by}
-use Rattle.records.specs.Sound.{Sound, AsEntered, Extends, StepsKeepSound}
+use Rattle.records.specs.Calls.{reasons, made_by, hour_after}
+use Rattle.records.specs.Sound.{Sound, AsEntered, IsUndeemed, IsWithoutNopay, Extends, StepsKeepSound}
 use Rattle.records.proofs.SoundPosted.{Lasts, same_ids, none_new, energy_lasts, tag_lasts, election_lasts, test_lasts, transfer_lasts, demand_lasts, given_lasts}
 
 -- what passes a test is there
@@ -96,7 +97,9 @@ module _ (h : Hour) (s : Sound h) where
         homes = All-weaker _ _ (λ p e. ap is_some (kept p.area e) ∙ e) h.parties.rows s.homes;
         owners = All-weaker _ _ (λ r e. of_ciso_stays h g r.owner kept (λ _. refl) e) h.resources.rows s.owners;
         as_entered = All-weaker (AsEntered h) (AsEntered g) (λ p. entered_stays h g p (kept p.area)) h.parties.rows s.as_entered;
-        whole_areas = All-push WholeArea h.areas.rows a s.whole_areas (whole_area (as_id id) kind);
+        undeemed = s.undeemed;
+        without_nopay = All-push IsWithoutNopay h.areas.rows a s.without_nopay (λ weim. no_nopay (as_id id) kind);
+        whole_areas = All-push IsWholeArea h.areas.rows a s.whole_areas (whole_area (as_id id) kind);
         whole_parties = s.whole_parties;
         whole_resources = s.whole_resources;
       }
@@ -116,8 +119,10 @@ module _ (h : Hour) (s : Sound h) where
         homes = All-push (λ p. is_some (area_of h p.area) ≡ true) h.parties.rows p s.homes (grind (arith, fits));
         owners = All-weaker _ _ (λ r e. of_ciso_stays h g r.owner (λ _ _. refl) (find_kept (λ x. x.id == r.owner) h.parties.rows p) e) h.resources.rows s.owners;
         as_entered = All-push (AsEntered h) h.parties.rows p s.as_entered (λ _. refl);
+        undeemed = s.undeemed;
+        without_nopay = s.without_nopay;
         whole_areas = s.whole_areas;
-        whole_parties = All-push WholeParty h.parties.rows p s.whole_parties (whole_party (as_id id) (as_id area));
+        whole_parties = All-push IsWholeParty h.parties.rows p s.whole_parties (whole_party (as_id id) (as_id area));
         whole_resources = s.whole_resources;
       }
 
@@ -135,9 +140,11 @@ module _ (h : Hour) (s : Sound h) where
         homes = s.homes;
         owners = All-push (λ r. party_is_of_ciso h r.owner ≡ true) h.resources.rows r s.owners (grind (arith, fits));
         as_entered = s.as_entered;
+        undeemed = All-push IsUndeemed h.resources.rows r s.undeemed (λ plain. refl);
+        without_nopay = s.without_nopay;
         whole_areas = s.whole_areas;
         whole_parties = s.whole_parties;
-        whole_resources = All-push WholeResource h.resources.rows r s.whole_resources (whole_resource (as_id id) (as_id owner) kind (flag net) (flag exempt));
+        whole_resources = All-push IsWholeResource h.resources.rows r s.whole_resources (whole_resource (as_id id) (as_id owner) kind (flag net) (flag exempt));
       }
 
 more_ids : {T : Type 0} (key : T → ℕ) (xs : List T) (y : T) → Extends key xs (xs ++ y ∷ [])
@@ -176,18 +183,22 @@ lasts_made (EnterResource id owner (Some kind) net exempt) h e s = (
 )
 lasts_made (PostEnergy id interval post) h e s = energy_lasts h s id interval post
 lasts_made (PostTag id interval post) h e s = tag_lasts h s id interval post
-lasts_made (PostElection id post) h e s = election_lasts h s id post
-lasts_made (PostTest id quarter post) h e s = test_lasts h s id quarter post
+lasts_made (PostElection id post) h e s = election_lasts h s id post e
+lasts_made (PostTest id quarter post) h e s = test_lasts h s id quarter post e
 lasts_made (PostTransfer id interval post) h e s = transfer_lasts h s id interval post
 lasts_made (PostDemand id interval units) h e s = demand_lasts h s id interval units e
 lasts_made (PostGiven id interval code cents) h e s = given_lasts h s id interval code cents e
 
 -- and after any call
-pub lasts_left : (call : Call) (h : Hour) → Sound h → Lasts h (left_by call h)
+pub lasts_left : (call : Call) (h : Hour) → Sound h → Lasts h (hour_after call h)
 lasts_left call h s =
-    left_either (Lasts h) (first_fit (reasons call h)) h (made_by call h)
+    state_after_either (Lasts h) (first_fit (reasons call h)) h (made_by call h)
     (λ e. lasts_made call h e s) (s, none_new h)
 
 pub steps_keep_sound : StepsKeepSound
 steps_keep_sound before after step s =
     subst (Lasts before) (sym step.made) (lasts_made step.call before step.accepted s)
+
+-- what a call leaves of sound records is sound
+pub sound_left : (call : Call) {h g : Hour} → Sound h → g ≡ hour_after call h → Sound g
+sound_left call {h} s is = subst Sound (sym is) (lasts_left call h s).0

@@ -4,13 +4,13 @@ use Rattle.std.specs.List.{list_any}
 use Rattle.std.specs.Option.{option_map_or}
 use Rattle.std.specs.Ordering.{int_eq}
 use Rattle.tables.specs.Tables as tables
-use Rattle.rows.specs.declared.figures.Volume.{Volume}
+use Rattle.rows.specs.declared.figures.Power.{Power}
 use Rattle.rows.specs.declared.figures.DeemedEnergy.{DeemedEnergy}
 use Rattle.rows.specs.declared.kinds.AreaKind.{AreaKind}
 use Rattle.rows.specs.declared.area.Area.{Area}
 use Rattle.rows.specs.declared.party.Party.{Party}
 use Rattle.rows.specs.declared.resource.Resource.{Resource}
-use Rattle.records.specs.declared.hour.Hour.{Hour}
+use Rattle.records.specs.View.{Hour}
 use Rattle.rows.specs.Kinds.{is_ciso, is_tie}
 use Rattle.rows.specs.Posted.{with_table}
 use Rattle.records.specs.Ranges.{most_areas, most_parties, most_resources}
@@ -28,9 +28,9 @@ resource_id r = r.id
 -- tables with so many rows, and no more than the full numbers
 abbrev pub opened : ℕ → ℕ → ℕ → Hour
 opened areas parties resources = record {
-  areas = tables.opened (min areas most_areas);
-  parties = tables.opened (min parties most_parties);
-  resources = tables.opened (min resources most_resources);
+  areas = tables.new_table (min areas most_areas);
+  parties = tables.new_table (min parties most_parties);
+  resources = tables.new_table (min resources most_resources);
 }
 
 -- with the deemed energies of a table, one row for each resource, in the order entered
@@ -39,17 +39,17 @@ with_deemed table h = record h { resources = record h.resources { rows = with_ta
 
 -- the area, the party and the resource with an id, where one is entered
 abbrev pub area_of : Hour → ℕ → Option Area
-area_of h id = tables.found area_id id h.areas.rows
+area_of h id = tables.row_under area_id id h.areas.rows
 
 abbrev pub party_of : Hour → ℕ → Option Party
-party_of h id = tables.found party_id id h.parties.rows
+party_of h id = tables.row_under party_id id h.parties.rows
 
 abbrev pub resource_of : Hour → ℕ → Option Resource
-resource_of h id = tables.found resource_id id h.resources.rows
+resource_of h id = tables.row_under resource_id id h.resources.rows
 
 -- whether the area with an id is entered, and is the CISO area
 abbrev pub ciso_among : List Area → ℕ → Bool
-ciso_among areas id = option_map_or (λ a. is_ciso a.kind) (tables.found area_id id areas) false
+ciso_among areas id = option_map_or (λ a. is_ciso a.kind) (tables.row_under area_id id areas) false
 
 abbrev pub area_is_ciso : Hour → ℕ → Bool
 area_is_ciso h id = ciso_among h.areas.rows id
@@ -67,12 +67,12 @@ abbrev pub resource_is_tie : Hour → ℕ → Bool
 resource_is_tie h id = option_map_or (λ r. is_tie r.kind) (resource_of h id) false
 
 -- a WEIM area has no nopay but 0
-unfoldable pub nopay_fits : Volume → AreaKind → Bool
-nopay_fits nopay kind = int_eq nopay.units.0 (pos 0) || is_ciso kind
+unfoldable pub nopay_allowed : Power → AreaKind → Bool
+nopay_allowed nopay kind = int_eq nopay.kilowatts.0 (pos 0) || is_ciso kind
 
--- whether it fits where the area with an id is entered
-abbrev pub nopay_fits_at : Hour → ℕ → Volume → Bool
-nopay_fits_at h id nopay = option_map_or (λ a. nopay_fits nopay a.kind) (area_of h id) true
+-- whether it is allowed where the area with an id is entered
+abbrev pub nopay_allowed_at : Hour → ℕ → Power → Bool
+nopay_allowed_at h id nopay = option_map_or (λ a. nopay_allowed nopay a.kind) (area_of h id) true
 
 -- whether some area is the CISO area
 abbrev pub any_ciso : List Area → Bool

@@ -1,8 +1,11 @@
-pub mod Placing
+pub mod View
 pub mod Ranges
 pub mod Hours
+pub mod Keys
 pub mod Calls
 pub mod Readings
 pub mod Trial
 pub mod Standing
+pub mod Kept
+pub mod Working
 pub mod Sound

@@ -1,13 +1,15 @@
 -- What is true of the records of every hour, and how accepted calls change them. Assumes nothing.
-use Rattle.std.specs.Prelude.{◌≡◌, ℕ, ◌≤◌, ◌==◌, true, false, List, map, ◌++◌, None, is_some}
+use Rattle.std.specs.Prelude.{◌≡◌, ℕ, ◌≤◌, ◌==◌, true, false, List, map, ◌++◌, None, is_some, pos}
 use Rattle.std.specs.List.{All, count_by}
 use Rattle.tables.specs.Keyed.{Keyed}
 use Rattle.tables.specs.Refusals.{first_fit}
 use Rattle.rows.specs.declared.party.Party.{Party}
-use Rattle.rows.specs.Rows.{new_party, WholeArea, WholeParty, WholeResource}
+use Rattle.rows.specs.declared.area.Area.{Area}
+use Rattle.rows.specs.declared.resource.Resource.{Resource}
+use Rattle.rows.specs.Rows.{new_party, nothing_deemed, IsWholeArea, IsWholeParty, IsWholeResource}
 use Rattle.records.specs.declared.call.Call.{Call}
-use Rattle.records.specs.declared.hour.Hour.{Hour}
-use Rattle.rows.specs.Kinds.{is_ciso}
+use Rattle.records.specs.View.{Hour}
+use Rattle.rows.specs.Kinds.{is_ciso, is_tie}
 use Rattle.records.specs.Ranges.{most_areas, most_parties, most_resources}
 use Rattle.records.specs.Hours.{area_id, party_id, resource_id, area_of, area_is_ciso, area_is_weim, party_is_of_ciso}
 use Rattle.records.specs.Calls.{reasons, made_by}
@@ -15,6 +17,14 @@ use Rattle.records.specs.Calls.{reasons, made_by}
 -- a party is as it was entered, where it is not of the CISO area
 abbrev pub AsEntered : Hour → Party → Type 0
 AsEntered h p = area_is_ciso h p.area ≡ false → p ≡ new_party p.id p.area
+
+-- a plain resource has no deemed energy: each is 0
+abbrev pub IsUndeemed : Resource → Type 0
+IsUndeemed r = is_tie r.kind ≡ false → r.deemed ≡ nothing_deemed
+
+-- a WEIM area has no nopay but 0, neither of its election nor of any test
+abbrev pub IsWithoutNopay : Area → Type 0
+IsWithoutNopay a = is_ciso a.kind ≡ false → (a.election.nopay.kilowatts.0 ≡ pos 0) × All (λ t. t.nopay.kilowatts.0 ≡ pos 0) a.tests
 
 pub record Sound (h : Hour) : Type 0 where
   -- in each table every row has an id of its own, and there is room for the rows
@@ -31,10 +41,13 @@ pub record Sound (h : Hour) : Type 0 where
   pub owners : All (λ r. party_is_of_ciso h r.owner ≡ true) h.resources.rows
   -- for a party outside the CISO area nothing is posted
   pub as_entered : All (AsEntered h) h.parties.rows
+  -- for a plain resource nothing is deemed, and a WEIM area has no nopay
+  pub undeemed : All IsUndeemed h.resources.rows
+  pub without_nopay : All IsWithoutNopay h.areas.rows
   -- for each row a record stands in each quarter and each interval
-  pub whole_areas : All WholeArea h.areas.rows
-  pub whole_parties : All WholeParty h.parties.rows
-  pub whole_resources : All WholeResource h.resources.rows
+  pub whole_areas : All IsWholeArea h.areas.rows
+  pub whole_parties : All IsWholeParty h.parties.rows
+  pub whole_resources : All IsWholeResource h.resources.rows
 
 -- an accepted call leads from the records before to those after
 pub record Step (before after : Hour) : Type 0 where

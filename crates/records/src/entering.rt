@@ -1,13 +1,14 @@
-// The calls that enter an area, a party or a resource, each refused by the first reason that fits.
+//! The calls that enter an area, a party or a resource, each refused by the first reason that fits.
 ghost use Rattle.std.specs.Prelude.{◌≡◌, ◌&&◌, not};
-ghost use Rattle.tables.specs.Refusals.{Tested};
-ghost use Rattle.tables.specs.declared.refusal.Reason.TheVariants.{Misfit};
+ghost use Rattle.tables.specs.Refusals.{IsTested};
+ghost use Rattle.tables.specs.declared.refusal.Reason.TheVariants.{Incompatible};
 ghost use Rattle.rows.specs.Kinds.{is_ciso};
 ghost use Rattle.records.specs.Hours.{any_ciso, any_party_in, ciso_among};
-ghost use Rattle.records.specs.Calls.{judgment_of, left_by};
+ghost use Rattle.records.specs.Calls.{hour_after};
+ghost use Rattle.records.specs.Working.{verdict};
 ghost use Rattle.records.specs.declared.call.Call.TheVariants.{EnterArea, EnterParty, EnterResource};
 
-use super::hour::Hour;
+use super::records::Records;
 use rows::{Area, AreaKind, Party, Resource, ResourceKind};
 use tables::{Reason, Table, flag_of, id_of};
 
@@ -27,31 +28,31 @@ fn has_party_in(parties: &[Party], area: u16) -> bool
 
 // That the area with an id is the CISO area.
 pub(crate) fn check_ciso(areas: &Table<Area>, id: u16) -> Result<(), Reason>
-    ensures { Tested (ciso_among areas.now.rows id) tt Misfit result }
+    ensures { IsTested (ciso_among areas.now.rows id) tt Incompatible result }
 {
     match areas.row(id) {
         Ok(area) if area.kind.is_ciso() => Ok(()),
-        _ => Err(Reason::Misfit),
+        _ => Err(Reason::Incompatible),
     }
 }
 
-impl Hour {
-    pub(crate) fn enter_area(&mut self, id: i64, kind: Option<AreaKind>) -> Result<(), Reason>
-        ensures answer { result ≡ judgment_of (EnterArea id kind) self.old }
-        ensures records { self.new ≡ left_by (EnterArea id kind) self.old }
+impl Records {
+    pub(super) fn enter_area(&mut self, id: i64, kind: Option<AreaKind>) -> Result<(), Reason>
+        ensures answer { result ≡ verdict (EnterArea id kind) self.old }
+        ensures records { self.new ≡ hour_after (EnterArea id kind) self.old }
     {
         let id = id_of(id)?;
         let kind = kind.ok_or(Reason::OutsideValues)?;
         self.areas.check_free(id)?;
         if kind.is_ciso() && has_ciso(self.areas.rows()) {
-            return Err(Reason::Misfit);
+            return Err(Reason::Incompatible);
         }
         self.areas.add(Area::new(id, kind))
     }
 
-    pub(crate) fn enter_party(&mut self, id: i64, area: i64) -> Result<(), Reason>
-        ensures answer { result ≡ judgment_of (EnterParty id area) self.old }
-        ensures records { self.new ≡ left_by (EnterParty id area) self.old }
+    pub(super) fn enter_party(&mut self, id: i64, area: i64) -> Result<(), Reason>
+        ensures answer { result ≡ verdict (EnterParty id area) self.old }
+        ensures records { self.new ≡ hour_after (EnterParty id area) self.old }
     {
         let id = id_of(id)?;
         let area = id_of(area)?;
@@ -61,7 +62,7 @@ impl Hour {
         self.parties.add(Party::new(id, area))
     }
 
-    pub(crate) fn enter_resource(
+    pub(super) fn enter_resource(
         &mut self,
         id: i64,
         owner: i64,
@@ -69,8 +70,8 @@ impl Hour {
         net: i64,
         exempt: i64,
     ) -> Result<(), Reason>
-        ensures answer { result ≡ judgment_of (EnterResource id owner kind net exempt) self.old }
-        ensures records { self.new ≡ left_by (EnterResource id owner kind net exempt) self.old }
+        ensures answer { result ≡ verdict (EnterResource id owner kind net exempt) self.old }
+        ensures records { self.new ≡ hour_after (EnterResource id owner kind net exempt) self.old }
     {
         let id = id_of(id)?;
         let owner = id_of(owner)?;
@@ -86,10 +87,10 @@ impl Hour {
 
     // That no party is in the area, where it is a WEIM area.
     fn check_single(&self, area: u16, kind: AreaKind) -> Result<(), Reason>
-        ensures { Tested (not (not (is_ciso kind) && any_party_in area self.now.parties.rows)) tt Misfit result }
+        ensures { IsTested (not (not (is_ciso kind) && any_party_in area self.now.parties.rows)) tt Incompatible result }
     {
         if !kind.is_ciso() && has_party_in(self.parties.rows(), area) {
-            return Err(Reason::Misfit);
+            return Err(Reason::Incompatible);
         }
         Ok(())
     }

@@ -1,10 +1,8 @@
-// The records of an hour, and the calls that enter, post and read them.
+//! The records of an hour, and the calls that enter, post and read them.
 #![tactic(auto)]
 
 mod call;
-mod calls;
 mod entering;
-mod hour;
 mod placing;
 mod posting;
 mod readings;
@@ -12,5 +10,4 @@ mod records;
 mod trial;
 
 pub use call::Call;
-pub use hour::{MOST_AREAS, MOST_PARTIES, MOST_RESOURCES};
-pub use records::Records;
+pub use records::{MOST_AREAS, MOST_PARTIES, MOST_RESOURCES, Records};

@@ -1,22 +1,32 @@
 use Rattle.std.proofs.Common.{rules, ◌≡◌, sym, subst}
 use Rattle.records.specs.Sound.{Sound, Grows}
 use Rattle.records.specs.Calls.{answer_to}
-use Rattle.records.proofs.SoundAfter.{lasts_left}
-use Rattle.records.proofs.Standing.{stands_left}
+use Rattle.records.proofs.SoundAfter.{lasts_left, sound_left}
+use Rattle.records.specs.Kept.{KeepsRecords}
+use Rattle.records.proofs.Standing.{stands_left, keeps_records}
 use Rattle.records.proofs.records.Records.take.Goals as goal
+use Rattle.records.proofs.records.Records.take.Goals.{After-dispatch}
 
-pub invariant_of-self : goal.invariant_of-self
-invariant_of-self c = subst Sound (sym c.take.ensures.records) (lasts_left c.args.call c.self.inside.hour c.self.invariant).0
+sound_before : (c : After-dispatch) → Sound c.args.self.now
+sound_before c = subst Sound c.self.view_is c.self.invariant
 
 pub returns-clause-sound : goal.returns-clause-sound
-returns-clause-sound c = subst Sound (sym c.take.ensures.records) (lasts_left c.args.call c.self.inside.hour c.self.invariant).0
+returns-clause-sound c =
+    let k = (goal.at.returns-clause-sound c).After-dispatch in
+    sound_left k.args.call (sound_before k) k.dispatch.ensures.records
 
 pub returns-clause-grows : goal.returns-clause-grows
 returns-clause-grows c =
-    let grows = subst (Grows c.self.inside.hour) (sym c.take.ensures.records) (lasts_left c.args.call c.self.inside.hour c.self.invariant).1 in
-    subst (λ before. Grows before c.take.new.self) c.self.view_is grows
+    let k = (goal.at.returns-clause-grows c).After-dispatch in
+    subst (Grows k.args.self.now) (sym k.dispatch.ensures.records) (lasts_left k.args.call k.args.self.now (sound_before k)).1
 
 pub returns-clause-stands : goal.returns-clause-stands
 returns-clause-stands c =
-    let answer : c.match-take.result ≡ answer_to c.args.call c.self.inside.hour = search rules in
-    stands_left c.args.call c.self.inside.hour c.take.new.self c.match-take.result answer c.take.ensures.records c.self.invariant
+    let k = (goal.at.returns-clause-stands c).After-dispatch in
+    let answer : c.answer_at.result ≡ answer_to k.args.call k.args.self.now = search rules in
+    stands_left k.args.call k.args.self.now k.dispatch.new.self c.answer_at.result answer k.dispatch.ensures.records (sound_before k)
+
+pub returns-clause-kept : goal.returns-clause-kept
+returns-clause-kept c =
+    let k = (goal.at.returns-clause-kept c).After-dispatch in
+    subst (KeepsRecords k.args.call k.args.self.now) (sym k.dispatch.ensures.records) (keeps_records k.args.call k.args.self.now (sound_before k))

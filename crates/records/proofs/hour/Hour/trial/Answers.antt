@@ -1,8 +1,0 @@
-use Rattle.std.proofs.Common.{rules}
-use Rattle.records.proofs.hour.Hour.trial.Goals as goal
-
-pub returns-in_err-energy-clause-answer : goal.returns-in_err-energy-clause-answer
-returns-in_err-energy-clause-answer c = search rules
-
-pub returns-clause-answer : goal.returns-clause-answer
-returns-clause-answer c = search rules

@@ -1,0 +1,7 @@
+use Rattle.std.proofs.Common.{rules}
+use Rattle.records.specs.declared.call.Call.TheVariants.{PostElection}
+use Rattle.records.proofs.SoundAfter.{sound_left}
+use Rattle.records.proofs.records.Records.post_election.Goals as goal
+
+pub invariant_of-self : goal.invariant_of-self
+invariant_of-self c = sound_left (PostElection c.args.id c.args.post) c.self.invariant (search rules)

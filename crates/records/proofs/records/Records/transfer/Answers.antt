@@ -1,0 +1,9 @@
+use Rattle.std.proofs.Common.{rules}
+use Rattle.rows.specs.Records.{OfTransfer}
+use Rattle.records.proofs.SlotTold.{slot_answer}
+use Rattle.records.proofs.records.Records.transfer.Goals as goal
+
+pub returns : goal.returns
+returns c =
+    slot_answer OfTransfer c.args.id c.args.interval c.args.self.now c.in_ok-area.area.now _ _
+    (search rules) (search rules) (search rules) (search rules) (search rules)
