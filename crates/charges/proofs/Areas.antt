@@ -6,7 +6,7 @@ use Rattle.std.proofs.lemmas.Int.{ints}
 use Rattle.std.proofs.lemmas.List.Elements.{All-nil, All-cons, All-head, All-tail, All-weaker}
 use Rattle.sharing.specs.Laws.{total}
 use Rattle.sharing.proofs.Totals.{total-cons}
-use Rattle.tables.specs.Tables.{found}
+use Rattle.tables.specs.Tables.{row_under}
 use Rattle.rows.specs.declared.figures.Cents.{Cents}
 use Rattle.rows.specs.declared.area.Area.{Area}
 use Rattle.rows.specs.declared.party.Party.{Party}
@@ -16,7 +16,7 @@ use Rattle.charges.specs.Sharing.{Distinct}
 
 -- the area of a party is among them
 abbrev pub Home : List Area → Party → Type 0
-Home areas p = is_some (found area_id p.area areas) ≡ true
+Home areas p = is_some (row_under area_id p.area areas) ≡ true
 
 pub total_of_0 : {X : Type 0} (xs : List X) → total (map (λ _. pos 0) xs) ≡ pos 0
 total_of_0 [] = refl
@@ -33,7 +33,7 @@ module _ (id : ℕ) (z : ℤ) where
       let P : Area → Type 0 = λ a. id ≢ a.id in
       rw (ne_eqb id a.id (All-head P a areas none)) (elsewhere areas (All-tail P a areas none))
 
-  once : (areas : List Area) → Distinct areas → is_some (found area_id id areas) ≡ true → total (map at areas) ≡ z
+  once : (areas : List Area) → Distinct areas → is_some (row_under area_id id areas) ≡ true → total (map at areas) ≡ z
   once [] distinct home = absurd (false≢true home)
   once (a ∷ areas) distinct home =
       ⊎_elim
@@ -73,7 +73,7 @@ without_first : (P : Party × Cents → Type 0) (area : ℕ) (p : Party) (ps : L
 without_first P area p ps c cs each = ⊎_elim (λ e. All-tail P (p, c) (entries_in area ps cs) (rw e at each)) (λ e. rw e at each) (cases_Bool (p.area == area))
 
 -- what holds of all areas holds of the one that is found
-pub at_found : (Q : Area → Type 0) (id : ℕ) (areas : List Area) → All Q areas → is_some (found area_id id areas) ≡ true → (a : Area) × (id ≡ a.id) × Q a
+pub at_found : (Q : Area → Type 0) (id : ℕ) (areas : List Area) → All Q areas → is_some (row_under area_id id areas) ≡ true → (a : Area) × (id ≡ a.id) × Q a
 at_found Q id [] each home = absurd (false≢true home)
 at_found Q id (a ∷ areas) each home =
     ⊎_elim (λ e. (a, sym (eqb-true a.id id e), All-head Q a areas each))

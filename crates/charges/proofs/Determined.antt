@@ -46,8 +46,8 @@ pub alike_itself : (x : IntervalAmounts) → Alike x x
 alike_itself x = record { columns = λ code. refl; balance = refl }
 
 -- amounts that are charged of the same records by the same rule are so
-pub determined : {shares : ℤ → List ℕ → List ℤ} {areas : List Area} {parties : List Party} {resources : List Resource} {place : ℕ} {x y : IntervalAmounts} → All (Home areas) parties
-    → IntervalCharged shares areas parties resources place x → IntervalCharged shares areas parties resources place y → Alike x y
+pub determined : {shares : ℤ → List ℕ → List ℤ} {areas : List Area} {parties : List Party} {resources : List Resource} {index : ℕ} {x y : IntervalAmounts} → All (Home areas) parties
+    → IntervalCharged shares areas parties resources index x → IntervalCharged shares areas parties resources index y → Alike x y
 determined {areas = areas} {parties = parties} {x = x} {y = y} homes one other = record { columns = each; balance = one.balance_is ∙ sym other.balance_is }
   where
     each : (code : ChargeCode) → column_under code x ≡ column_under code y

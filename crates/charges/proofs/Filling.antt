@@ -1,4 +1,4 @@
--- A list that is filled place by place. Assumes nothing.
+-- A list that is filled index by index. Assumes nothing.
 use Rattle.std.proofs.Common.{◌≡◌, ◌+◌, ◌-◌, ◌<◌, ℕ, List, [], ◌∷◌, ◌++◌, map, length, take, drop, get_or, set, replicate, ℤ, sym, ap, ◌∙◌, append_assoc, arith}
 use Rattle.std.proofs.lemmas.List.{length-map, length-take-le, map_more, drop_more, set_at, take_all, drop-replicate}
 use Rattle.rows.specs.declared.figures.Cents.{Cents}

@@ -1,5 +1,5 @@
 -- An hour, from its intervals. Assumes nothing.
-use Rattle.std.proofs.Common.{◌≡◌, ◌<◌, ◌+◌, ℕ, zero, suc, List, [], ◌∷◌, ◌++◌, map, length, drop, replicate, get_or, set, None, Some, Result, ℤ, pos, sym, ap, subst, ◌∙◌, ⊎_elim, append-nil, add-one, get_or-set_same, get_or-set_other, arith}
+use Rattle.std.proofs.Common.{◌≡◌, ◌<◌, ◌+◌, ℕ, zero, suc, List, [], ◌∷◌, ◌++◌, map, length, drop, replicate, get_or, set, None, Some, Result, ℤ, sym, ap, subst, ◌∙◌, ⊎_elim, append-nil, add-one, get_or-set_same, get_or-set_other, arith}
 use Rattle.std.specs.List.{All, flat_map, zip}
 use Rattle.std.proofs.lemmas.Bool.{cases_lt}
 use Rattle.std.proofs.lemmas.Grind.{flat_map-append}
@@ -14,9 +14,9 @@ use Rattle.rows.specs.declared.figures.DeemedEnergy.{DeemedEnergy}
 use Rattle.rows.specs.declared.area.Area.{Area}
 use Rattle.rows.specs.declared.party.Party.{Party}
 use Rattle.rows.specs.declared.resource.Resource.{Resource}
-use Rattle.rows.specs.Figures.{as_deemed}
+use Rattle.rows.specs.Figures.{as_deemed, no_units}
 use Rattle.rows.specs.Posted.{with_table}
-use Rattle.records.specs.declared.hour.Hour.{Hour}
+use Rattle.records.specs.View.{Hour}
 use Rattle.records.specs.Ranges.{most_resources}
 use Rattle.records.specs.Sound.{Sound}
 use Rattle.charges.specs.declared.amounts.IntervalAmounts.{IntervalAmounts}
@@ -24,18 +24,18 @@ use Rattle.charges.specs.declared.amounts.HourAmounts.{HourAmounts}
 use Rattle.charges.specs.declared.fault.ChargeFault.{ChargeFault}
 use Rattle.charges.specs.Amounts.{no_amounts}
 use Rattle.charges.specs.Energies.{energies_by_kind, new_energies, with_new_energies, counts, EnergyLaws}
-use Rattle.charges.specs.Faults.{tie_fault, interval_faults, first_places, hour_faults}
-use Rattle.charges.specs.Charged.{IntervalCharged, IntervalWorkedOut, HourCharged, HourLaws, renewed, at_place}
-use Rattle.charges.proofs.Energies.{counts_are, energy_laws, tables_with}
+use Rattle.charges.specs.Faults.{tie_fault, interval_faults, first_indices, hour_faults}
+use Rattle.charges.specs.Charged.{IntervalCharged, IntervalWorkedOut, HourCharged, HourLaws, renewed, at_index}
+use Rattle.charges.proofs.Energies.{counts_are, energy_laws, tables_with, renewed_deemed}
 use Rattle.charges.proofs.IntervalLaws.{interval_laws, same_owners}
 
 -- the faults of the first so many intervals
 module _ {R : Type 0} (faults : ℕ → List (Fit R)) where
   abbrev pub so_far : ℕ → List (Fit R)
-  so_far n = flat_map faults (first_places n)
+  so_far n = flat_map faults (first_indices n)
 
   one_more : (n : ℕ) → so_far (suc n) ≡ so_far n ++ faults n
-  one_more n = flat_map-append faults (first_places n) (n ∷ []) ∙ ap (λ l. so_far n ++ l) (append-nil (faults n))
+  one_more n = flat_map-append faults (first_indices n) (n ∷ []) ∙ ap (λ l. so_far n ++ l) (append-nil (faults n))
 
   pub none_at_next : (n : ℕ) → first_fit (so_far n) ≡ None → first_fit (faults n) ≡ None → first_fit (so_far (n + 1)) ≡ None
   none_at_next n none here = rw (add-one n, one_more n) (first_fit-append (so_far n) (faults n) none ∙ here)
@@ -64,11 +64,11 @@ at_front P f (x ∷ xs) more each =
 
 -- the energies of a table in which nothing is deemed delivered
 abbrev pub nothing : List (List DeemedEnergy)
-nothing = replicate most_resources (replicate hour_length (as_deemed (pos 0)))
+nothing = replicate most_resources (replicate hour_length (as_deemed no_units))
 
 module _ {shares : ℤ → List ℕ → List ℤ} (lawful : Lawful shares) (h : Hour) (sound : Sound h) (a : HourAmounts) where
   pub hour_charged : a.deemed ≡ map (new_energies shares) h.resources.rows ++ drop (length h.resources.rows) nothing
-      → ((place : ℕ) → place < hour_length → IntervalCharged shares h.areas.rows h.parties.rows (renewed shares h) place (at_place a place))
+      → ((index : ℕ) → index < hour_length → IntervalCharged shares h.areas.rows h.parties.rows (renewed shares h) index (at_index a index))
       → HourCharged shares h a
   hour_charged table charged = record {
     energies = table ∙ ap (λ l. map (new_energies shares) h.resources.rows ++ l) (drop-replicate (length h.resources.rows) most_resources _);
@@ -95,15 +95,15 @@ module _ {shares : ℤ → List ℕ → List ℤ} (lawful : Lawful shares) (h : 
   pub hour_laws : (a : HourAmounts) → HourCharged shares h a → HourLaws h (renewed shares h) a
   hour_laws a charged = record {
     energies = rw charged.energies (at_front EnergyLaws (new_energies shares) resources _ each_energy);
-    intervals = λ place in'.
-        interval_laws lawful h sound (renewed shares h) (same_owners shares resources) place in' (at_place a place) (none_at faults_at hour_length place in' neither.1) (charged.intervals place in');
+    intervals = λ index in'.
+        interval_laws lawful h sound (renewed shares h) (same_owners shares resources) index in' (at_index a index) (none_at faults_at hour_length index in' neither.1) (charged.intervals index in');
   }
 
   -- the resources with their new deemed energies
   pub renewed_laws : All (λ r. EnergyLaws r r.deemed) (renewed shares h)
   renewed_laws = All-map (λ r. EnergyLaws r r.deemed) (with_new_energies shares) resources (λ i d k.
       let laws = each_energy i d k in
-      record { of_plain = laws.of_plain; of_static = laws.of_static; static_in_full = laws.static_in_full; in_full = laws.in_full; near = laws.near })
+      rw (renewed_deemed shares (get_or resources i d) (sound.undeemed i d k)) (record { of_plain = laws.of_plain; of_static = laws.of_static; static_in_full = laws.static_in_full; in_full = laws.in_full; near = laws.near }))
 
 -- An interval that is worked out with the rows of an hour and a table of new energies is one of the hour.
 module _ (shares : ℤ → List ℕ → List ℤ) (h : Hour) {areas : List Area} {parties : List Party} {rows resources : List Resource} {table : List (List DeemedEnergy)} (more : List (List DeemedEnergy))
@@ -112,11 +112,11 @@ module _ (shares : ℤ → List ℕ → List ℤ) (h : Hour) {areas : List Area}
   renewed_is : with_table table resources ≡ renewed shares h
   renewed_is = rw resources_are (tables_with shares h.resources.rows table more (table_is ∙ ap (λ l. map (new_energies shares) l ++ more) rows_are))
 
-  pub in_hour : (place : ℕ) (r : Result IntervalAmounts ChargeFault) → IntervalWorkedOut shares areas parties (with_table table resources) place r
-      → IntervalWorkedOut shares h.areas.rows h.parties.rows (renewed shares h) place r
-  in_hour place r worked = rw (← renewed_is, ← areas_are, ← parties_are) worked
+  pub in_hour : (index : ℕ) (r : Result IntervalAmounts ChargeFault) → IntervalWorkedOut shares areas parties (with_table table resources) index r
+      → IntervalWorkedOut shares h.areas.rows h.parties.rows (renewed shares h) index r
+  in_hour index r worked = rw (← renewed_is, ← areas_are, ← parties_are) worked
 
--- one place more of a list of intervals
+-- one index more of a list of intervals
 module _ (P : ℕ → IntervalAmounts → Type 0) (xs : List IntervalAmounts) (i : ℕ) (x : IntervalAmounts) (in' : i < length xs) where
   pub placed : ((k : ℕ) → k < i → P k (get_or xs k no_amounts)) → P i x → (k : ℕ) → k < i + 1 → P k (get_or (set xs i x) k no_amounts)
   placed earlier here k less =

@@ -15,7 +15,6 @@ pub mod SurchargeParts
 pub mod OffsetParts
 pub mod IntervalLaws
 pub mod Charging
-pub mod Figures
 pub mod Shareable
 pub mod Energies
 pub mod Renewing

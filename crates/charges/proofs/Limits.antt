@@ -13,17 +13,17 @@ use Rattle.rows.specs.Ranges.{most_energy}
 use Rattle.rows.specs.Posted.{demand_at}
 use Rattle.charges.specs.Columns.{parties_in, weight, weights}
 
-weight_within : (kind : AreaKind) (place : ℕ) (p : Party) → weight kind place p ≤ most_energy
+weight_within : (kind : AreaKind) (index : ℕ) (p : Party) → weight kind index p ≤ most_energy
 unfolding weight
-weight_within Ciso place p = (demand_at place p).within
-weight_within Weim place p = omega arith
+weight_within Ciso index p = (demand_at index p).within
+weight_within Weim index p = omega arith
 
-pub within_limits : (place : ℕ) (pool : ℤ) (area : Area) (parties : List Party) → unsigned_abs pool ≤ most_pool → length parties ≤ most_weights → Within pool (weights place area parties)
-within_limits place pool area parties small few =
+pub within_limits : (index : ℕ) (pool : ℤ) (area : Area) (parties : List Party) → unsigned_abs pool ≤ most_pool → length parties ≤ most_weights → Within pool (weights index area parties)
+within_limits index pool area parties small few =
     let ps : List Party = parties_in area.id parties in
-    let ws : List ℕ = weights place area parties in
-    let count : length ws ≤ most_weights = omega (arith, length-map ps (weight area.kind place), length-filter (λ (p : Party). p.area == area.id) parties, count_by-le-length (λ (p : Party). p.area == area.id) parties) in
-    let each : All (λ w. w ≤ most_energy) ws = All-map (λ w. w ≤ most_energy) (weight area.kind place) ps (λ i p h. weight_within area.kind place (get_or ps i p)) in
+    let ws : List ℕ = weights index area parties in
+    let count : length ws ≤ most_weights = omega (arith, length-map ps (weight area.kind index), length-filter (λ (p : Party). p.area == area.id) parties, count_by-le-length (λ (p : Party). p.area == area.id) parties) in
+    let each : All (λ w. w ≤ most_energy) ws = All-map (λ w. w ≤ most_energy) (weight area.kind index) ps (λ i p h. weight_within area.kind index (get_or ps i p)) in
     record {
       pool = small;
       count = count;

@@ -13,7 +13,7 @@ use Rattle.rows.specs.declared.given.GivenCode.{GivenCode}
 use Rattle.rows.specs.declared.given.GivenCode.TheVariants.{PassThrough, Cc6474, Cc6475}
 use Rattle.rows.specs.Kinds.{is_ciso}
 use Rattle.rows.proofs.NothingGiven.{nothing_given_at}
-use Rattle.records.specs.declared.hour.Hour.{Hour}
+use Rattle.records.specs.View.{Hour}
 use Rattle.records.specs.Hours.{ciso_among, area_is_ciso, party_is_of_ciso, party_of}
 use Rattle.records.specs.Sound.{Sound, AsEntered}
 use Rattle.charges.specs.Amounts.{given_cents, amount_6470, offset_by, offset_pool}
@@ -48,15 +48,15 @@ module _ (h : Hour) (sound : Sound h) (none : count_by (λ a. is_ciso a.kind) h.
       first (r ∷ rs) [] owners same = absurd (let e = ap length same in omega arith)
       first (r ∷ rs) (t ∷ ts) owners same = absurd (false≢true (sym (of_none t.owner) ∙ All-head (λ r. party_is_of_ciso h r.owner ≡ true) t ts owners))
 
-  module _ (place : ℕ) (inside : place < hour_length) where
-    given_none : (code : GivenCode) (p : Party) → AsEntered h p → given_cents code place p ≡ pos 0
-    given_none code p as_entered = ap (given_cents code place) (as_entered (outside p.area)) ∙ nothing_given_at code place p.id p.area inside
+  module _ (index : ℕ) (inside : index < hour_length) where
+    given_none : (code : GivenCode) (p : Party) → AsEntered h p → given_cents code index p ≡ pos 0
+    given_none code p as_entered = ap (given_cents code index) (as_entered (outside p.area)) ∙ nothing_given_at code index p.id p.area inside
 
-    pub no_offset : (resources : List Resource) → map (λ r. r.owner) resources ≡ map (λ r. r.owner) h.resources.rows → offset_pool resources h.parties.rows place ≡ pos 0
+    pub no_offset : (resources : List Resource) → map (λ r. r.owner) resources ≡ map (λ r. r.owner) h.resources.rows → offset_pool resources h.parties.rows index ≡ pos 0
     unfolding amount_6470 offset_pool
     no_offset resources same =
         let nobody = no_resources resources same in
-        let each : All (λ p. offset_by [] place p ≡ pos 0) h.parties.rows =
-        All-weaker (AsEntered h) (λ p. offset_by [] place p ≡ pos 0)
+        let each : All (λ p. offset_by [] index p ≡ pos 0) h.parties.rows =
+        All-weaker (AsEntered h) (λ p. offset_by [] index p ≡ pos 0)
         (λ p e. omega (arith, ints, given_none PassThrough p e, given_none Cc6474 p e, given_none Cc6475 p e)) h.parties.rows sound.as_entered in
-        rw nobody (ap neg_ℤ (total_same (offset_by [] place) (λ _. pos 0) h.parties.rows each ∙ total_of_0 h.parties.rows))
+        rw nobody (ap neg_ℤ (total_same (offset_by [] index) (λ _. pos 0) h.parties.rows each ∙ total_of_0 h.parties.rows))

@@ -6,19 +6,20 @@ use Rattle.std.proofs.lemmas.Bool.{cases_Bool}
 use Rattle.std.proofs.lemmas.List.{length-map, get_or-map}
 use Rattle.sharing.specs.declared.outcome.SharingFault.{SharingFault}
 use Rattle.sharing.specs.Limits.{Within, Shareable}
-use Rattle.sharing.specs.Laws.{Apportioned}
+use Rattle.sharing.specs.Laws.{Apportioned, Lawful}
 use Rattle.sharing.specs.Outcome.{Refused}
 use Rattle.sharing.specs.Handing.{SharedOut}
 use Rattle.sharing.proofs.Parts.{only_no_weight, shares_within}
-use Rattle.deemed.specs.Deemed.{NearPart}
+use Rattle.sharing.proofs.Told.{AreShares, told_back}
+use Rattle.deemed.specs.declared.fault.PoolFault.{PoolFault}
+use Rattle.deemed.specs.Pools.{NearPart}
 use Rattle.rows.specs.declared.figures.Cents.{Cents}
 use Rattle.rows.specs.declared.area.Area.{Area}
 use Rattle.rows.specs.declared.party.Party.{Party}
-use Rattle.charges.specs.declared.fault.PoolFault.{PoolFault}
 use Rattle.charges.specs.declared.claims.Claim.{Claim}
 use Rattle.charges.specs.Columns.{parties_in, entries_in, cents_in, weight, weights}
 use Rattle.charges.specs.Claims.{claims_in}
-use Rattle.charges.specs.Parts.{GivenTo, SharedInArea}
+use Rattle.charges.specs.Parts.{GivenTo, IsSharedIn}
 
 none_left : {X : Type 0} (xs : List X) → 0 ≡ length xs → [] ≡ xs
 none_left [] e = refl
@@ -45,14 +46,14 @@ near_each pool weighs es laws = λ i d h.
     (record { near = λ some. laws.near i some (omega arith); none = λ none. laws.no_weight i none (omega arith) })
 
 -- as they are where an area's parties have lawful shares
-pub near_in_area : (place : ℕ) (pool : ℤ) (area : Area) (parties : List Party) (column : List Cents) → Apportioned pool (weights place area parties) (cents_in area.id parties column)
-    → All (λ e. NearPart pool (sum (weights place area parties)) (weight area.kind place e.0) e.1.0) (entries_in area.id parties column)
-near_in_area place pool area parties column laws =
+pub near_in_area : (index : ℕ) (pool : ℤ) (area : Area) (parties : List Party) (column : List Cents) → Apportioned pool (weights index area parties) (cents_in area.id parties column)
+    → All (λ e. NearPart pool (sum (weights index area parties)) (weight area.kind index e.0) e.1.0) (entries_in area.id parties column)
+near_in_area index pool area parties column laws =
     let es : List (Party × Cents) = entries_in area.id parties column in
-    let ws : List ℕ = weights place area parties in
-    let each : length es ≡ length (parties_in area.id parties) = sym (length-map es (λ e. e.1.0)) ∙ laws.one_each ∙ length-map (parties_in area.id parties) (weight area.kind place) in
-    let weigh : ws ≡ map (λ e. weight area.kind place e.0) es = ap (map (weight area.kind place)) (sym (firsts-entries_in area.id parties column each)) ∙ simp map-map in
-    rw weigh (near_each pool (weight area.kind place) es (rw (← weigh) laws))
+    let ws : List ℕ = weights index area parties in
+    let each : length es ≡ length (parties_in area.id parties) = sym (length-map es (λ e. e.1.0)) ∙ laws.one_each ∙ length-map (parties_in area.id parties) (weight area.kind index) in
+    let weigh : ws ≡ map (λ e. weight area.kind index e.0) es = ap (map (weight area.kind index)) (sym (firsts-entries_in area.id parties column each)) ∙ simp map-map in
+    rw weigh (near_each pool (weight area.kind index) es (rw (← weigh) laws))
 
 -- and none is larger than the pool
 pub within_each : (pool : ℤ) (es : List (Party × Cents)) → All (λ z. unsigned_abs z ≤ unsigned_abs pool) (map (λ e. e.1.0) es) → All (λ e. unsigned_abs e.1.0 ≤ unsigned_abs pool) es
@@ -60,34 +61,34 @@ within_each pool es each = λ i d h.
     let long : length (map (λ (e : Party × Cents). e.1.0) es) ≡ length es = length-map es (λ e. e.1.0) in
     rw (← get_or-map (λ e. e.1.0) es i d (pos 0) h) (each i (pos 0) (omega arith))
 
-weights_are : (place : ℕ) (area : Area) (parties : List Party) (claims : List Claim) → claims ≡ claims_in place area parties → map (λ c. c.weight) claims ≡ weights place area parties
-weights_are place area parties claims are = ap (map (λ c. c.weight)) are ∙ simp map-map
+weights_are : (index : ℕ) (area : Area) (parties : List Party) (claims : List Claim) → claims ≡ claims_in index area parties → map (λ c. c.weight) claims ≡ weights index area parties
+weights_are index area parties claims are = ap (map (λ c. c.weight)) are ∙ simp map-map
 
 -- what `share_out` says of such claims
 abbrev pub SharedAmong : {T : Type 0} → (ℤ → List ℕ → List ℤ) → ℤ → List Claim → List Claim → Result T SharingFault → Type 0
 SharedAmong shares pool before after r =
     SharedOut (λ c. c.weight) (λ c. c.share) (λ c u. record { weight = c.weight; share = u }) (λ u. u.0) (λ z. record { 0 = z }) shares pool before after r
 
-module _ {shares : ℤ → List ℕ → List ℤ} {place : ℕ} {pool : ℤ} {area : Area} {parties : List Party} {claims : List Claim} (are : claims ≡ claims_in place area parties) where
-  pub shared_in_area : {T : Type 0} (x : T) (before after : List Cents) (given : List Claim) → SharedAmong shares pool claims given (Ok x)
-      → GivenTo area.id parties (map (λ c. c.share.0) given) before after → SharedInArea shares place pool area parties before after (Ok x)
-  shared_in_area x before after given s g =
-      let ws : List ℕ = weights place area parties in
+module _ {shares : ℤ → List ℕ → List ℤ} {index : ℕ} {pool : ℤ} {area : Area} {parties : List Party} {claims : List Claim} (are : claims ≡ claims_in index area parties) where
+  pub shared_in_area : Lawful shares → {T : Type 0} (x : T) (before after : List Cents) (given : List Claim) → SharedAmong shares pool claims given (Ok x)
+      → GivenTo area.id parties (map (λ c. c.share.0) given) before after → IsSharedIn shares index pool area parties before after (Ok x)
+  shared_in_area lawful x before after given s g =
+      let ws : List ℕ = weights index area parties in
       let zs : List ℤ = map (λ c. c.share.0) given in
-      let f : Shareable pool ws × (zs ≡ shares pool ws) × Apportioned pool ws zs = rw (← weights_are place area parties claims are) (s.outcome.1, s.told, s.lawful) in
-      let laws : Apportioned pool ws (cents_in area.id parties after) = rw g.own f.2 in
+      let f : Shareable pool ws × AreShares shares pool ws zs = rw (← weights_are index area parties claims are) (s.outcome.1, told_back (λ c. c.share) (λ c u. refl) (λ z. refl) lawful s) in
+      let laws : Apportioned pool ws (cents_in area.id parties after) = rw g.own f.1.1 in
       record {
-        outcome = (f.0, record { own = g.own ∙ f.1; others = g.others; behind = g.behind; long = g.long });
+        outcome = (f.0, record { own = g.own ∙ f.1.0; others = g.others; behind = g.behind; long = g.long });
         kept = tt;
         in_full = laws.in_full f.0;
-        near = near_in_area place pool area parties after laws;
+        near = near_in_area index pool area parties after laws;
         within = within_each pool (entries_in area.id parties after) (shares_within pool ws (cents_in area.id parties after) laws);
       }
 
-  pub refused_in_area : {T : Type 0} (f : SharingFault) (d : PoolFault) (column : List Cents) (given : List Claim) → d.0 ≡ f → Within pool (weights place area parties)
-      → SharedAmong {T = T} shares pool claims given (Err f) → SharedInArea {T = T} shares place pool area parties column column (Err d)
+  pub refused_in_area : {T : Type 0} (f : SharingFault) (d : PoolFault) (column : List Cents) (given : List Claim) → d.0 ≡ f → Within pool (weights index area parties)
+      → SharedAmong {T = T} shares pool claims given (Err f) → IsSharedIn {T = T} shares index pool area parties column column (Err d)
   refused_in_area f d column given whole within s =
-      let ws : List ℕ = weights place area parties in
-      let why : Refused pool ws f = rw (← weights_are place area parties claims are) s.outcome in
+      let ws : List ℕ = weights index area parties in
+      let why : Refused pool ws f = rw (← weights_are index area parties claims are) s.outcome in
       let only = only_no_weight pool ws f within why in
       record { outcome = (whole ∙ only.0, only.1, only.2); kept = refl; in_full = tt; near = tt; within = tt }

@@ -30,26 +30,26 @@ total_of_rows f xs m each =
     let within = total_within m (map f xs) (All-map (λ z. unsigned_abs z ≤ m) f xs (λ i d h. each (get_or xs i d))) in
     rw (length-map xs f) at within
 
-pub given_within : (code : GivenCode) (place : ℕ) (p : Party) → unsigned_abs (given_cents code place p) ≤ most_given
-given_within code place p = (given_at code place p).within
+pub given_within : (code : GivenCode) (index : ℕ) (p : Party) → unsigned_abs (given_cents code index p) ≤ most_given
+given_within code index p = (given_at code index p).within
 
-module _ (resources : List Resource) (few : length resources ≤ most_resources) (place : ℕ) where
-  pub imbalance_within : (p : Party) → unsigned_abs (amount_6470 resources place p) ≤ most_imbalance
+module _ (resources : List Resource) (few : length resources ≤ most_resources) (index : ℕ) where
+  pub imbalance_within : (p : Party) → unsigned_abs (amount_6470 resources index p) ≤ most_imbalance
   unfolding amount_6470
   imbalance_within p =
       let own : List Resource = owned_by p.id resources in
       let count : length own ≤ most_resources = omega (arith, length-filter (λ (r : Resource). r.owner == p.id) resources, count_by-le-length (λ (r : Resource). r.owner == p.id) resources) in
-      let charges = total_of_rows (resource_charge place) own most_charge (λ r. imbalance_charge_within place (deemed_at place r).units.0 r (deemed_at place r).within) in
-      let given = given_within PassThrough place p in
+      let charges = total_of_rows (resource_charge index) own most_charge (λ r. imbalance_charge_within index (deemed_at index r).units.0 r (deemed_at index r).within) in
+      let given = given_within PassThrough index p in
       omega (arith, ints)
 
-  offset_by_within : (p : Party) → unsigned_abs (offset_by resources place p) ≤ most_offset_by
-  offset_by_within p = omega (arith, ints, imbalance_within p, given_within Cc6474 place p, given_within Cc6475 place p)
+  offset_by_within : (p : Party) → unsigned_abs (offset_by resources index p) ≤ most_offset_by
+  offset_by_within p = omega (arith, ints, imbalance_within p, given_within Cc6474 index p, given_within Cc6475 index p)
 
-  pub offset_within : (parties : List Party) → length parties ≤ most_parties → unsigned_abs (offset_pool resources parties place) ≤ most_amount
+  pub offset_within : (parties : List Party) → length parties ≤ most_parties → unsigned_abs (offset_pool resources parties index) ≤ most_amount
   unfolding offset_pool
-  offset_within parties few' = omega (arith, ints, total_of_rows (offset_by resources place) parties most_offset_by offset_by_within)
+  offset_within parties few' = omega (arith, ints, total_of_rows (offset_by resources index) parties most_offset_by offset_by_within)
 
-pub balance_within : (areas : List Area) (place : ℕ) → length areas ≤ most_areas → unsigned_abs (balance areas place) ≤ most_amount
+pub balance_within : (areas : List Area) (index : ℕ) → length areas ≤ most_areas → unsigned_abs (balance areas index) ≤ most_amount
 unfolding balance
-balance_within areas place few = omega (arith, ints, total_of_rows (area_pool place) areas most_charge (area_pool_within place))
+balance_within areas index few = omega (arith, ints, total_of_rows (area_pool index) areas most_charge (area_pool_within index))

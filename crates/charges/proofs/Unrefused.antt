@@ -16,14 +16,14 @@ use Rattle.charges.specs.Faults.{offset_fault, surcharge_fault, interval_faults}
 use Rattle.charges.proofs.Shareable.{shareable}
 
 -- the CISO area's offset, and each area's surcharge
-pub all_shareable : (areas : List Area) (parties : List Party) (resources : List Resource) (place : ℕ) → first_fit (interval_faults areas parties resources place) ≡ None
-    → All (λ a. is_ciso a.kind ≡ true → Shareable (offset_pool resources parties place) (weights place a parties)) areas × All (λ a. Shareable (area_pool place a) (weights place a parties)) areas
-all_shareable areas parties resources place none =
-    let offset = offset_fault resources parties place in
-    let surcharge = surcharge_fault parties place in
+pub all_shareable : (areas : List Area) (parties : List Party) (resources : List Resource) (index : ℕ) → first_fit (interval_faults areas parties resources index) ≡ None
+    → All (λ a. is_ciso a.kind ≡ true → Shareable (offset_pool resources parties index) (weights index a parties)) areas × All (λ a. Shareable (area_pool index a) (weights index a parties)) areas
+all_shareable areas parties resources index none =
+    let offset = offset_fault resources parties index in
+    let surcharge = surcharge_fault parties index in
     let both = none_of_both (map offset areas) (map surcharge areas) (none_fits (map offset areas ++ map surcharge areas) none) in (
-      All-weaker (λ a. (offset a).fits ≡ false) (λ a. is_ciso a.kind ≡ true → Shareable (offset_pool resources parties place) (weights place a parties))
-          (λ a fits ciso. shareable (offset_pool resources parties place) (weights place a parties) (rw ciso at fits)) areas (none_of_each offset areas both.0),
-      All-weaker (λ a. (surcharge a).fits ≡ false) (λ a. Shareable (area_pool place a) (weights place a parties))
-          (λ a fits. shareable (area_pool place a) (weights place a parties) fits) areas (none_of_each surcharge areas both.1),
+      All-weaker (λ a. (offset a).fits ≡ false) (λ a. is_ciso a.kind ≡ true → Shareable (offset_pool resources parties index) (weights index a parties))
+          (λ a fits ciso. shareable (offset_pool resources parties index) (weights index a parties) (rw ciso at fits)) areas (none_of_each offset areas both.0),
+      All-weaker (λ a. (surcharge a).fits ≡ false) (λ a. Shareable (area_pool index a) (weights index a parties))
+          (λ a fits. shareable (area_pool index a) (weights index a parties) fits) areas (none_of_each surcharge areas both.1),
     )

@@ -1,4 +1,4 @@
--- The amounts of parties and the pools, in an interval by its place from 0. Deemed energies are those that stand with the resources.
+-- The amounts of parties and the pools, in an interval by its index from 0. Deemed energies are those that stand with the resources.
 -- Assumes nothing.
 use Rattle.std.specs.Prelude.{ℕ, ◌-◌, ◌==◌, List, ◌++◌, map, filter, length, replicate, ℤ, pos, neg_ℤ, ◌+ℤ◌}
 use Rattle.sharing.specs.Laws.{total}
@@ -16,37 +16,37 @@ use Rattle.charges.specs.declared.amounts.IntervalAmounts.{IntervalAmounts}
 
 -- what a resource is charged under CC 6470
 abbrev pub resource_charge : ℕ → Resource → ℤ
-resource_charge place r = imbalance_charge place (deemed_at place r).units.0 r
+resource_charge index r = imbalance_charge index (deemed_at index r).units.0 r
 
 -- the resources of a party, by its id
 abbrev pub owned_by : ℕ → List Resource → List Resource
 owned_by owner resources = filter (λ r. r.owner == owner) resources
 
 abbrev pub given_cents : GivenCode → ℕ → Party → ℤ
-given_cents code place p = (given_at code place p).cents.0
+given_cents code index p = (given_at code index p).cents.0
 
 -- a party's amount under CC 6470: its resources', and what is passed through to it
 unfoldable pub amount_6470 : List Resource → ℕ → Party → ℤ
-amount_6470 resources place p = total (map (resource_charge place) (owned_by p.id resources)) +ℤ given_cents PassThrough place p
+amount_6470 resources index p = total (map (resource_charge index) (owned_by p.id resources)) +ℤ given_cents PassThrough index p
 
 -- those under CC 6474 and CC 6475 are given
 abbrev pub amount_6474 : ℕ → Party → ℤ
-amount_6474 place p = given_cents Cc6474 place p
+amount_6474 index p = given_cents Cc6474 index p
 
 abbrev pub amount_6475 : ℕ → Party → ℤ
-amount_6475 place p = given_cents Cc6475 place p
+amount_6475 index p = given_cents Cc6475 index p
 
 -- what is charged under the three
 abbrev pub offset_by : List Resource → ℕ → Party → ℤ
-offset_by resources place p = amount_6470 resources place p +ℤ amount_6474 place p +ℤ amount_6475 place p
+offset_by resources index p = amount_6470 resources index p +ℤ amount_6474 index p +ℤ amount_6475 index p
 
 -- the pool of CC 6477 gives it back
 unfoldable pub offset_pool : List Resource → List Party → ℕ → ℤ
-offset_pool resources parties place = neg_ℤ (total (map (offset_by resources place) parties))
+offset_pool resources parties index = neg_ℤ (total (map (offset_by resources index) parties))
 
 -- account 0 has the other side of all pools of CC 6476
 unfoldable pub balance : List Area → ℕ → ℤ
-balance areas place = neg_ℤ (total (map (area_pool place) areas))
+balance areas index = neg_ℤ (total (map (area_pool index) areas))
 
 abbrev pub no_cents : Cents
 no_cents = record { 0 = pos 0 }

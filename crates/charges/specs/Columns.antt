@@ -21,11 +21,11 @@ entries_in area parties column = filter (λ e. e.0.area == area) (zip parties co
 abbrev pub cents_in : ℕ → List Party → List Cents → List ℤ
 cents_in area parties column = map (λ e. e.1.0) (entries_in area parties column)
 
--- In an interval, by its place from 0, a party of the CISO area weighs its demand, and one of a WEIM area 1.
+-- In an interval, by its index from 0, a party of the CISO area weighs its demand, and one of a WEIM area 1.
 unfoldable pub weight : AreaKind → ℕ → Party → ℕ
-weight Ciso place p = unsigned_abs (demand_at place p).units.0
-weight Weim place p = 1
+weight Ciso index p = unsigned_abs (demand_at index p).units.0
+weight Weim index p = 1
 
 -- what the parties of an area weigh
 abbrev pub weights : ℕ → Area → List Party → List ℕ
-weights place area parties = map (weight area.kind place) (parties_in area.id parties)
+weights index area parties = map (weight area.kind index) (parties_in area.id parties)

@@ -4,7 +4,7 @@ use Rattle.std.specs.List.{All, zip}
 use Rattle.sharing.specs.Laws.{total}
 use Rattle.deemed.specs.Ranges.{hour_length}
 use Rattle.deemed.specs.Tags.{pool, weights}
-use Rattle.deemed.specs.Deemed.{NearPart}
+use Rattle.deemed.specs.Pools.{NearPart}
 use Rattle.rows.specs.declared.figures.DeemedEnergy.{DeemedEnergy}
 use Rattle.rows.specs.declared.kinds.ResourceKind.TheVariants.{Plain, StaticTie, DynamicTie}
 use Rattle.rows.specs.declared.kinds.ResourceKind.{ResourceKind}
@@ -18,9 +18,13 @@ energies_by_kind shares Plain r = replicate hour_length (pos 0)
 energies_by_kind shares StaticTie r = map (λ t. t.kw.0) r.tags
 energies_by_kind shares DynamicTie r = shares (pool r.tags) (weights r.tags)
 
+-- the figure of so many units
+abbrev pub figure_of : ℤ → DeemedEnergy
+figure_of z = as_deemed (record { 0 = z })
+
 -- as figures in their range
 unfoldable pub new_energies : (ℤ → List ℕ → List ℤ) → Resource → List DeemedEnergy
-new_energies shares r = map as_deemed (energies_by_kind shares r.kind r)
+new_energies shares r = map figure_of (energies_by_kind shares r.kind r)
 
 -- a resource with them
 abbrev pub with_new_energies : (ℤ → List ℕ → List ℤ) → Resource → Resource
@@ -38,4 +42,6 @@ pub record EnergyLaws (r : Resource) (energies : List DeemedEnergy) : Type 0 whe
   pub static_in_full : r.kind ≡ StaticTie → total (counts energies) ≡ pool r.tags
   pub in_full : r.kind ≡ DynamicTie → total (counts energies) ≡ pool r.tags
   -- each is less than a unit off its exact part
-  pub near : r.kind ≡ DynamicTie → All (λ x. NearPart (pool r.tags) (sum (weights r.tags)) x.0 x.1) (zip (weights r.tags) (counts energies))
+  pub near :
+      r.kind ≡ DynamicTie
+      → All (λ x. NearPart (pool r.tags) (sum (weights r.tags)) x.0 x.1) (zip (weights r.tags) (counts energies))

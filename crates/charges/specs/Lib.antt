@@ -9,3 +9,4 @@ pub mod Faults
 pub mod Renewing
 pub mod Sharing
 pub mod Charged
+pub mod Working

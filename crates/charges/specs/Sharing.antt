@@ -13,7 +13,8 @@ abbrev pub Distinct : List Area → Type 0
 Distinct areas = AllPairs (λ a b. a.id ≢ b.id) areas
 
 -- the parties of each area have their shares in a column, where no fault fits, and else the first that fits is answered
-abbrev pub SharedByArea : {T : Type 0} → (Area → Fit ChargeFault) → (Area → List ℤ) → List Area → List Party → List Cents → List Cents → Result T ChargeFault → Type 0
+abbrev pub SharedByArea : {T : Type 0} → (Area → Fit ChargeFault) → (Area → List ℤ) → List Area → List Party
+    → List Cents → List Cents → Result T ChargeFault → Type 0
 SharedByArea faults shares areas parties before after (Ok _) =
     (first_fit (map faults areas) ≡ None)
     × All (λ a. cents_in a.id parties after ≡ shares a) areas

@@ -1,5 +1,5 @@
-// The claims of an area's parties on a pool, and the shares put at the parties' places in a column.
-ghost use Rattle.std.specs.Prelude.{◌≡◌, ◌≤◌, map, length, pos, refl};
+//! The claims of an area's parties on a pool, and the shares put at the parties' places in a column.
+ghost use Rattle.std.specs.Prelude.{◌≡◌, ◌≤◌, map, length, refl};
 ghost use Rattle.sharing.specs.Limits.{most_weights};
 ghost use Rattle.charges.specs.Columns.{parties_in, weight};
 ghost use Rattle.charges.specs.Claims.{claims_in};
@@ -10,25 +10,12 @@ use rows::{Area, AreaKind, Cents, Interval, Party};
 use sharing::{MOST_WEIGHTS, Recipient};
 
 // What a party weighs, and its share of the pool.
-#[derive(Clone, Copy)]
+#[derive(Clone, Copy, Default)]
 pub(crate) struct Claim {
     pub(crate) weight: u32,
     pub(crate) share: Cents,
 }
 
-// What an `ArrayVec` is filled with. By hand: `Cents` has no default of its own.
-impl Default for Claim {
-    ghost is_default = { λ c. (c.weight ≡ 0) × (c.share.0 ≡ pos 0) };
-
-    fn default() -> Claim {
-        Claim {
-            weight: 0,
-            share: Cents(0),
-        }
-    }
-}
-
-// Each kind of recipient weighs in its own way; what all owe is the trait.
 impl Recipient for Claim {
     type Unit = Cents;
 
@@ -38,11 +25,7 @@ impl Recipient for Claim {
 
     ghost having = { λ c u. record { weight = c.weight; share = u } };
 
-    ghost told = { λ x u. refl };
-
-    ghost restored = { λ x u. refl };
-
-    ghost replaced = { λ x u v. refl };
+    ghost tells_back = { λ x u. refl };
 
     ghost steady = { λ x u. refl };
 
@@ -50,7 +33,9 @@ impl Recipient for Claim {
         self.weight
     }
 
-    fn take(&mut self, share: Cents) {
+    fn take(&mut self, share: Cents)
+        ensures { self.new ≡ record { weight = self.old.weight; share = share } }
+    {
         self.share = share;
     }
 
@@ -62,10 +47,10 @@ impl Recipient for Claim {
 // What a party weighs in an area of a kind.
 #[tactic(auto, unfolding(crate::specs::Columns::weight))]
 fn weight_of(kind: AreaKind, interval: Interval, party: &Party) -> u32
-    ensures { result ≡ weight kind interval.place party.now }
+    ensures { result ≡ weight kind interval.index party.now }
 {
     match kind {
-        AreaKind::Ciso => party.demand[interval.place].units.0 as u32,
+        AreaKind::Ciso => party.demand[interval.index].units.0 as u32,
         AreaKind::Weim => 1,
     }
 }
@@ -77,7 +62,7 @@ pub(crate) fn claims_of(
     parties: &[Party],
 ) -> ArrayVec<Claim, MOST_WEIGHTS>
     requires { length parties.now ≤ most_weights }
-    ensures { result.items ≡ claims_in interval.place area.now parties.now }
+    ensures { result.items ≡ claims_in interval.index area.now parties.now }
 {
     let mut claims = ArrayVec::new();
     for party in parties {

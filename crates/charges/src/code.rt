@@ -1,4 +1,4 @@
-// The codes under which a party is charged.
+//! The charge codes (CC) under which a party is charged.
 ghost use Rattle.std.specs.Prelude.{◌≡◌};
 ghost use Rattle.charges.specs.Codes.{all_codes, charge_code_number, column_under};
 
@@ -6,17 +6,23 @@ use super::amounts::IntervalAmounts;
 use records::MOST_PARTIES;
 use rows::Cents;
 
+/// A charge code (CC), by its number.
 #[derive(Clone, Copy, PartialEq, Eq, Debug)]
 pub enum ChargeCode {
+    /// Real-time instructed imbalance energy.
     Cc6470,
+    /// Unaccounted for energy: money that is given.
     Cc6474,
+    /// Uninstructed imbalance energy: money that is given.
     Cc6475,
+    /// Assistance energy transfer surcharge, shared among an area's parties.
     Cc6476,
+    /// Real-time imbalance energy offset, shared among the parties of the market operator's own area (CISO).
     Cc6477,
 }
 
 impl ChargeCode {
-    // Rising.
+    /// All codes, their numbers rising.
     pub const ALL: [ChargeCode; 5] = [
         ChargeCode::Cc6470,
         ChargeCode::Cc6474,
@@ -25,6 +31,7 @@ impl ChargeCode {
         ChargeCode::Cc6477,
     ];
 
+    /// The number of the code.
     pub fn number(self) -> u16
         ensures number { result ≡ charge_code_number self }
         ensures all { Self.ALL ≡ all_codes }
@@ -40,7 +47,7 @@ impl ChargeCode {
 }
 
 impl IntervalAmounts {
-    // The parties' amounts under a code.
+    /// The parties' amounts under a code, in the order entered, and 0 behind them.
     pub fn column(&self, code: ChargeCode) -> &[Cents; MOST_PARTIES]
         ensures { result.now ≡ column_under code self.now }
     {

@@ -1,85 +1,53 @@
-// Why an hour is not worked out.
-ghost use Rattle.std.specs.Prelude.{◌≡◌, ◌+◌, pos};
-ghost use Rattle.charges.specs.Faults.{fault_at, refusal_of};
-ghost use Rattle.tables.specs.declared.refusal.Reason.TheVariants.{NoTieWeight, NoDemand, NoSurchargeWeight};
+//! Why an hour is not worked out.
+ghost use Rattle.std.specs.Prelude.{◌≡◌};
+ghost use Rattle.sharing.specs.Outcome.{number_of};
+ghost use Rattle.tables.specs.Refusals.{reason_number};
+ghost use Rattle.charges.specs.Faults.{fault_at, refusal_of, rule_refusal};
 
-use deemed::DeemedFault;
-use rows::Interval;
+use deemed::PoolFault;
 use sharing::SharingFault;
 use tables::{Part, Place, Reason, Refusal};
 
-// Why a pool of money is not shared: the fault of the sharing, whole.
-#[derive(Clone, Copy, PartialEq, Eq, Debug)]
-pub struct PoolFault(pub SharingFault);
-
-// By hand: no contract says what fault a derived `From` makes.
-impl From<SharingFault> for PoolFault {
-    ghost from_gives = { λ fault r. r.0 ≡ fault };
-
-    fn from(fault: SharingFault) -> PoolFault {
-        PoolFault(fault)
-    }
-}
-
-// The fault of the sharing, whole, with the reason that it is and the place where it arose.
+/// The fault of the sharing of a pool, whole, with the reason that it is and the place where it arose.
 #[derive(Clone, Copy, PartialEq, Eq, Debug)]
 pub struct ChargeFault {
-    pub fault: SharingFault,
+    pub fault: PoolFault,
     pub reason: Reason,
     pub place: Place,
 }
 
-// The number of an interval.
-fn number_of(interval: Interval) -> i64
-    ensures { result ≡ pos (interval.place + 1) }
+/// The refusal of a sharing rule that is called alone: number 3 or 8, in part 1, without a place (interval 0, id 0).
+pub fn rule_refusal(fault: SharingFault) -> Refusal
+    ensures refusal { result ≡ rule_refusal fault }
+    ensures number { reason_number result.reason ≡ number_of fault }
 {
-    interval.place as i64 + 1
+    let reason = match fault {
+        SharingFault::Limit => Reason::OutsideValues,
+        SharingFault::NoWeight => Reason::NoTieWeight,
+    };
+    Refusal {
+        reason,
+        part: Part::Sharing,
+        place: Place { interval: 0, id: 0 },
+    }
 }
 
 impl ChargeFault {
-    // The energy of a tie is not shared.
-    pub(crate) fn of_tie(fault: DeemedFault, tie: u16) -> ChargeFault
-        ensures { result ≡ fault_at NoTieWeight fault.0 0 tie }
+    // A fault with its reason, the number of its interval or 0, and the id of the tie or area whose pool is not shared.
+    pub(crate) fn at(reason: Reason, fault: PoolFault, interval: i64, id: u16) -> ChargeFault
+        ensures { result ≡ fault_at reason fault.0 interval id }
     {
         ChargeFault {
-            fault: fault.0,
-            reason: Reason::NoTieWeight,
+            fault,
+            reason,
             place: Place {
-                interval: 0,
-                id: i64::from(tie),
+                interval,
+                id: i64::from(id),
             },
         }
     }
 
-    // The offset of an interval is not shared.
-    pub(crate) fn of_offset(fault: PoolFault, interval: Interval, area: u16) -> ChargeFault
-        ensures { result ≡ fault_at NoDemand fault.0 (interval.place + 1) area }
-    {
-        ChargeFault {
-            fault: fault.0,
-            reason: Reason::NoDemand,
-            place: Place {
-                interval: number_of(interval),
-                id: i64::from(area),
-            },
-        }
-    }
-
-    // The surcharge of an area in an interval is not shared.
-    pub(crate) fn of_surcharge(fault: PoolFault, interval: Interval, area: u16) -> ChargeFault
-        ensures { result ≡ fault_at NoSurchargeWeight fault.0 (interval.place + 1) area }
-    {
-        ChargeFault {
-            fault: fault.0,
-            reason: Reason::NoSurchargeWeight,
-            place: Place {
-                interval: number_of(interval),
-                id: i64::from(area),
-            },
-        }
-    }
-
-    // The refusal. It arose where the sharing stands, in part 1.
+    /// The refusal. It arose where the sharing stands, in part 1.
     pub fn refusal(self) -> Refusal
         ensures { result ≡ refusal_of self }
     {

@@ -1,4 +1,4 @@
-// The parties' amounts that are given.
+//! The parties' amounts that are given.
 ghost use Rattle.std.specs.Prelude.{◌≡◌, ◌≤◌, length, unsigned_abs};
 ghost use Rattle.std.specs.List.{All};
 ghost use Rattle.rows.specs.Ranges.{most_given};
@@ -15,7 +15,7 @@ pub(crate) fn given_column(
     code: GivenCode,
 ) -> [Cents; MOST_PARTIES]
     requires { length parties.now ≤ most_parties }
-    ensures value { result ≡ column (given_cents code interval.place) parties.now }
+    ensures value { result ≡ column (given_cents code interval.index) parties.now }
     ensures within { All (λ c. unsigned_abs c.0 ≤ most_given) result }
 {
     let mut column = [Cents(0); MOST_PARTIES];

@@ -1,4 +1,4 @@
-// The parties' amounts under CC 6470.
+//! The parties' amounts under CC 6470.
 ghost use Rattle.std.specs.Prelude.{◌≡◌, ◌≤◌, length, unsigned_abs};
 ghost use Rattle.std.specs.List.{All};
 ghost use Rattle.records.specs.Ranges.{most_parties, most_resources};
@@ -20,16 +20,16 @@ fn party_imbalance(
 ) -> Cents
     requires few { length resources.now ≤ most_resources }
     requires room { length resources.now ≤ length table.now }
-    ensures value { result.0 ≡ amount_6470 (with_table table.now resources.now) interval.place party.now }
+    ensures value { result.0 ≡ amount_6470 (with_table table.now resources.now) interval.index party.now }
     ensures within { unsigned_abs result.0 ≤ most_imbalance }
 {
-    let mut cents = party.given(interval, GivenCode::PassThrough).cents.0;
+    let mut cents = party.given(interval, GivenCode::PassThrough).cents;
     for (resource, energies) in resources.iter().zip(table) {
         if resource.owner == party.id {
-            cents += imbalance_charge(resource, interval, energies[interval.place]).0;
+            cents += imbalance_charge(resource, interval, energies[interval.index]);
         }
     }
-    Cents(cents)
+    cents
 }
 
 // The column of CC 6470.
@@ -42,7 +42,7 @@ pub(crate) fn imbalance_column(
     requires parties { length parties.now ≤ most_parties }
     requires few { length resources.now ≤ most_resources }
     requires room { length resources.now ≤ length table.now }
-    ensures value { result ≡ column (amount_6470 (with_table table.now resources.now) interval.place) parties.now }
+    ensures value { result ≡ column (amount_6470 (with_table table.now resources.now) interval.index) parties.now }
     ensures within { All (λ c. unsigned_abs c.0 ≤ most_imbalance) result }
 {
     let mut column = [Cents(0); MOST_PARTIES];

@@ -1,9 +1,8 @@
 // The amounts of an interval.
 ghost use Rattle.std.specs.Prelude.{◌≤◌, length};
 ghost use Rattle.records.specs.Ranges.{most_areas, most_parties, most_resources};
-ghost use Rattle.rows.specs.Posted.{with_table};
 ghost use Rattle.charges.specs.Sharing.{Distinct};
-ghost use Rattle.charges.specs.Charged.{IntervalWorkedOut};
+ghost use Rattle.charges.specs.Working.{IsWorkedOutWith};
 
 use super::amounts::IntervalAmounts;
 use super::fault::ChargeFault;
@@ -29,7 +28,7 @@ pub(crate) fn charge_interval<R: SharingRule>(
     requires resources { length resources.now ≤ most_resources }
     requires room { length resources.now ≤ length table.now }
     requires distinct { Distinct areas.now }
-    ensures { IntervalWorkedOut (R.SharingRule.shares rule.now) areas.now parties.now (with_table table.now resources.now) interval.place result }
+    ensures { IsWorkedOutWith (R.SharingRule.shares rule.now) areas.now parties.now resources.now table.now interval.index result }
 {
     let mut amounts = IntervalAmounts::none();
     amounts.cc_6470 = imbalance_column(parties, resources, table, interval);

@@ -1,4 +1,4 @@
-// The charges of an hour: what each party is charged in each interval, worked out by a sharing rule.
+//! The charges of an hour: what each party is charged in each interval, worked out by a sharing rule.
 #![tactic(auto)]
 
 mod amounts;
@@ -16,5 +16,5 @@ mod work;
 
 pub use amounts::{HourAmounts, IntervalAmounts};
 pub use code::ChargeCode;
-pub use fault::{ChargeFault, PoolFault};
+pub use fault::{ChargeFault, rule_refusal};
 pub use work::work_out;

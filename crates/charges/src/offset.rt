@@ -6,15 +6,15 @@ ghost use Rattle.rows.specs.Ranges.{most_given};
 ghost use Rattle.records.specs.Ranges.{most_parties};
 ghost use Rattle.charges.specs.Ranges.{most_imbalance, most_amount};
 ghost use Rattle.charges.specs.Amounts.{cents, no_column};
-ghost use Rattle.charges.specs.Sharing.{Distinct, SharedByArea};
-ghost use Rattle.charges.specs.Faults.{offset_fault_of};
-ghost use Rattle.charges.specs.Charged.{offset_shares_of};
+ghost use Rattle.charges.specs.Sharing.{Distinct};
+ghost use Rattle.charges.specs.Working.{IsOffsetShared};
 
 use super::fault::ChargeFault;
 use super::shared::share_in_area;
 use records::MOST_PARTIES;
 use rows::{Area, Cents, Interval, Party};
 use sharing::SharingRule;
+use tables::Reason;
 
 // What gives back the amounts of three columns.
 pub(crate) fn offset_pool(
@@ -28,11 +28,11 @@ pub(crate) fn offset_pool(
     ensures value { result.0 ≡ neg_ℤ (total (cents cc_6470.now) +ℤ total (cents cc_6474.now) +ℤ total (cents cc_6475.now)) }
     ensures within { unsigned_abs result.0 ≤ most_amount }
 {
-    let mut charged = 0;
+    let mut charged = Cents(0);
     for i in 0..MOST_PARTIES {
-        charged += cc_6470[i].0 + cc_6474[i].0 + cc_6475[i].0;
+        charged += cc_6470[i] + cc_6474[i] + cc_6475[i];
     }
-    Cents(-charged)
+    -charged
 }
 
 // Shares the offset among the parties of the CISO area.
@@ -48,14 +48,19 @@ pub(crate) fn share_offset<R: SharingRule>(
     requires distinct { Distinct areas.now }
     requires within { unsigned_abs pool.0 ≤ most_amount }
     requires empty { column.old ≡ no_column }
-    ensures { SharedByArea (offset_fault_of pool.0 parties.now interval.place) (offset_shares_of (R.SharingRule.shares rule.now) pool.0 parties.now interval.place) areas.now parties.now column.old column.new result }
+    ensures { IsOffsetShared (R.SharingRule.shares rule.now) pool.0 areas.now parties.now interval.index column.old column.new result }
 {
     for area in areas {
         if !area.kind.is_ciso() {
             continue;
         }
         share_in_area(rule, pool, area, interval, parties, column).map_err(|fault| {
-            ChargeFault::of_offset(fault, interval, area.id)
+            ChargeFault::at(
+                Reason::NoDemand,
+                fault,
+                i64::from(interval.number()),
+                area.id,
+            )
         })?;
     }
     Ok(())

@@ -1,4 +1,4 @@
-// The new deemed energies of resources.
+//! The new deemed energies of resources.
 ghost use Rattle.std.specs.Prelude.{◌≡◌, ◌≤◌, map, length, unsigned_abs};
 ghost use Rattle.std.specs.List.{All};
 ghost use Rattle.rows.specs.Ranges.{most_deemed};
@@ -6,14 +6,15 @@ ghost use Rattle.rows.specs.Figures.{as_deemed};
 ghost use Rattle.charges.specs.Renewing.{Renewed, RenewedAll};
 
 use super::fault::ChargeFault;
-use deemed::{DeemedFault, INTERVALS, TieHour, Units, static_units};
+use deemed::{INTERVALS, PoolFault, TieHour, Units, pool, static_units, weights};
 use rows::{DeemedEnergy, Resource, ResourceKind};
 use sharing::SharingRule;
+use tables::Reason;
 
 // Energies as figures.
 fn figures(units: [Units; INTERVALS]) -> [DeemedEnergy; INTERVALS]
     requires { All (λ u. unsigned_abs u.0 ≤ most_deemed) units }
-    ensures { result ≡ map (λ u. as_deemed u.0) units }
+    ensures { result ≡ map as_deemed units }
 {
     let mut energies = [DeemedEnergy::zero(); INTERVALS];
     for i in 0..INTERVALS {
@@ -27,15 +28,15 @@ fn renew<R: SharingRule>(
     rule: &R,
     resource: &Resource,
     energies: &mut [DeemedEnergy; INTERVALS],
-) -> Result<(), DeemedFault>
+) -> Result<(), PoolFault>
     ensures { Renewed (R.SharingRule.shares rule.now) resource.now energies.old energies.new result }
 {
     *energies = match resource.kind {
         ResourceKind::Plain => [DeemedEnergy::zero(); INTERVALS],
         ResourceKind::StaticTie => figures(static_units(resource.tags)),
         ResourceKind::DynamicTie => {
-            let mut hour = TieHour::new(resource.tags);
-            hour.share(rule)?;
+            let mut hour = TieHour::new(weights(resource.tags));
+            hour.share(rule, pool(resource.tags))?;
             figures(hour.units())
         }
     };
@@ -54,7 +55,7 @@ pub(crate) fn renew_all<R: SharingRule>(
     for (i, resource) in resources.iter().enumerate() {
         let mut energies = [DeemedEnergy::zero(); INTERVALS];
         renew(rule, resource, &mut energies).map_err(|fault| {
-            ChargeFault::of_tie(fault, resource.id)
+            ChargeFault::at(Reason::NoTieWeight, fault, 0, resource.id)
         })?;
         table[i] = energies;
     }

@@ -7,6 +7,6 @@ use Rattle.charges.proofs.given.given_column.Given as goal
 
 abbrev pub invariant-loop-i : goal.invariant-loop-i
 invariant-loop-i l = record {
-  value : l.column ≡ filled (λ p. record { 0 = given_cents l.fn.code l.interval.place p }) no_column l.parties l.i;
+  value : l.column ≡ filled (λ p. record { 0 = given_cents l.fn.code l.interval.index p }) no_column l.parties l.i;
   within : All (λ c. unsigned_abs c.0 ≤ most_given) l.column;
 }

@@ -12,7 +12,7 @@ pub loop-i-preserved : goal.loop-i-preserved
 loop-i-preserved c =
     let i : ℕ = c.loop-i.i in
     let Within : Cents → Type 0 = λ c. unsigned_abs c.0 ≤ most_imbalance in
-    let f : Party → Cents = λ p. record { 0 = amount_6470 (with_table c.args.table.now c.args.resources.now) c.args.interval.place p } in
+    let f : Party → Cents = λ p. record { 0 = amount_6470 (with_table c.args.table.now c.args.resources.now) c.args.interval.index p } in
     record {
       value =
           filled_more f c.args.parties.now no_column c.loop-i.column i c.index-parties-i.result c.party_imbalance.result c.loop-i-test.true (omega arith)
@@ -21,4 +21,4 @@ loop-i-preserved c =
     }
 
 pub returns-clause-value : goal.returns-clause-value
-returns-clause-value c = c.loop-i.invariant.value ∙ filled_all (amount_6470 (with_table c.args.table.now c.args.resources.now) c.args.interval.place) c.args.parties.now c.loop-i.i (omega arith)
+returns-clause-value c = c.loop-i.invariant.value ∙ filled_all (amount_6470 (with_table c.args.table.now c.args.resources.now) c.args.interval.index) c.args.parties.now c.loop-i.i (omega arith)

@@ -8,6 +8,6 @@ use Rattle.charges.proofs.imbalance.imbalance_column.Given as goal
 
 abbrev pub invariant-loop-i : goal.invariant-loop-i
 invariant-loop-i l = record {
-  value : l.column ≡ filled (λ p. record { 0 = amount_6470 (with_table l.table l.resources) l.interval.place p }) no_column l.parties l.i;
+  value : l.column ≡ filled (λ p. record { 0 = amount_6470 (with_table l.table l.resources) l.interval.index p }) no_column l.parties l.i;
   within : All (λ c. unsigned_abs c.0 ≤ most_imbalance) l.column;
 }

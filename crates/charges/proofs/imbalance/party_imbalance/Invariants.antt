@@ -9,6 +9,6 @@ use Rattle.charges.proofs.imbalance.party_imbalance.Given as goal
 
 abbrev pub invariant-loop-resource : goal.invariant-loop-resource
 invariant-loop-resource l = record {
-  value : l.cents ≡ total (map (resource_charge l.interval.place) (owned_by l.party.id (take (length l.yielded) (with_table l.table l.resources)))) +ℤ given_cents PassThrough l.interval.place l.party;
-  within : unsigned_abs l.cents ≤ most_given + length l.yielded * most_charge;
+  value : l.cents.0 ≡ total (map (resource_charge l.interval.index) (owned_by l.party.id (take (length l.yielded) (with_table l.table l.resources)))) +ℤ given_cents PassThrough l.interval.index l.party;
+  within : unsigned_abs l.cents.0 ≤ most_given + length l.yielded * most_charge;
 }

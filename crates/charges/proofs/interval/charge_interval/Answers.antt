@@ -13,7 +13,7 @@ returns-in_err-share_offset g c =
     let resources : List Resource = with_table c.args.table.now c.args.resources.now in
     let x : IntervalAmounts = record no_amounts { cc_6470 = c.imbalance_column-amounts.result; cc_6474 = c.given_column-amounts.result; cc_6475 = c.given_column-amounts-2.result; offset = c.offset_pool-amounts.result } in
     rw (p.1, p.2)
-    (offset_refused c.args.areas.now c.args.parties.now resources c.args.interval.place x c.imbalance_column-amounts.ensures.value c.given_column-amounts.ensures.value c.given_column-amounts-2.ensures.value c.offset_pool-amounts.ensures.value
+    (offset_refused c.args.areas.now c.args.parties.now resources c.args.interval.index x c.imbalance_column-amounts.ensures.value c.given_column-amounts.ensures.value c.given_column-amounts-2.ensures.value c.offset_pool-amounts.ensures.value
     c.in_err-share_offset.field-0.0 c.in_err-share_offset.ensures)
 
 pub returns-in_err-share_surcharges : goal.returns-in_err-share_surcharges
@@ -22,7 +22,7 @@ returns-in_err-share_surcharges g c =
     let resources : List Resource = with_table c.args.table.now c.args.resources.now in
     let x : IntervalAmounts = record no_amounts { cc_6470 = c.imbalance_column-amounts.result; cc_6474 = c.given_column-amounts.result; cc_6475 = c.given_column-amounts-2.result; offset = c.offset_pool-amounts.result } in
     rw (p.1, p.2)
-    (surcharges_met c.args.areas.now c.args.parties.now resources c.args.interval.place x c.imbalance_column-amounts.ensures.value c.given_column-amounts.ensures.value c.given_column-amounts-2.ensures.value c.offset_pool-amounts.ensures.value
+    (surcharges_met c.args.areas.now c.args.parties.now resources c.args.interval.index x c.imbalance_column-amounts.ensures.value c.given_column-amounts.ensures.value c.given_column-amounts-2.ensures.value c.offset_pool-amounts.ensures.value
     c.in_ok-share_offset.ensures.0 ∙ c.in_err-share_surcharges.ensures)
 
 pub returns : goal.returns
@@ -40,9 +40,9 @@ returns g c =
     let n : ℕ = length c.args.parties.now in
     let offset = c.in_ok-share_offset.ensures in
     let surcharges = c.in_ok-share_surcharges.ensures in (
-      surcharges_met c.args.areas.now c.args.parties.now resources c.args.interval.place x c.imbalance_column-amounts.ensures.value c.given_column-amounts.ensures.value c.given_column-amounts-2.ensures.value c.offset_pool-amounts.ensures.value
+      surcharges_met c.args.areas.now c.args.parties.now resources c.args.interval.index x c.imbalance_column-amounts.ensures.value c.given_column-amounts.ensures.value c.given_column-amounts-2.ensures.value c.offset_pool-amounts.ensures.value
           offset.0 ∙ surcharges.0,
-      charged c.args.areas.now c.args.parties.now resources c.args.interval.place x c.imbalance_column-amounts.ensures.value c.given_column-amounts.ensures.value c.given_column-amounts-2.ensures.value c.offset_pool-amounts.ensures.value
+      charged c.args.areas.now c.args.parties.now resources c.args.interval.index x c.imbalance_column-amounts.ensures.value c.given_column-amounts.ensures.value c.given_column-amounts-2.ensures.value c.offset_pool-amounts.ensures.value
           offset.1 (offset.2 ∙ ap (λ a. drop n a.cc_6477) c.none-amounts.ensures) (offset.3 ∙ ap (λ a. length a.cc_6477) c.none-amounts.ensures)
           surcharges.1 (surcharges.2 ∙ ap (λ a. drop n a.cc_6476) c.none-amounts.ensures) (surcharges.3 ∙ ap (λ a. length a.cc_6476) c.none-amounts.ensures) c.balance-amounts.ensures.value,
     )

@@ -7,6 +7,6 @@ use Rattle.charges.proofs.offset.offset_pool.Given as goal
 
 abbrev pub invariant-loop-i : goal.invariant-loop-i
 invariant-loop-i l = record {
-  value : l.charged ≡ total (cents (take l.i l.cc_6470)) +ℤ total (cents (take l.i l.cc_6474)) +ℤ total (cents (take l.i l.cc_6475));
-  within : unsigned_abs l.charged ≤ l.i * (most_imbalance + 2 * most_given);
+  value : l.charged.0 ≡ total (cents (take l.i l.cc_6470)) +ℤ total (cents (take l.i l.cc_6474)) +ℤ total (cents (take l.i l.cc_6475));
+  within : unsigned_abs l.charged.0 ≤ l.i * (most_imbalance + 2 * most_given);
 }

@@ -5,4 +5,4 @@ use Rattle.charges.proofs.offset.share_offset.Given as goal
 
 abbrev pub invariant-loop-area : goal.invariant-loop-area
 invariant-loop-area g l =
-    SharedSoFar (offset_fault_of l.pool.0 l.parties l.interval.place) (offset_shares_of (g.R.SharingRule.shares l.rule) l.pool.0 l.parties l.interval.place) l.areas l.parties l.initial.column l.area-index l.column
+    SharedSoFar (offset_fault_of l.pool.0 l.parties l.interval.index) (offset_shares_of (g.R.SharingRule.shares l.rule) l.pool.0 l.parties l.interval.index) l.areas l.parties l.initial.column l.area-index l.column

@@ -7,9 +7,9 @@ use Rattle.charges.proofs.surcharges.balance.Goals as goal
 
 pub loop-area-preserved : goal.loop-area-preserved
 loop-area-preserved c =
-    let place : ℕ = c.args.interval.place in
+    let index : ℕ = c.args.interval.index in
     let x : Area = c.area-item.result in
-    let more = total_more (area_pool place) c.args.areas.now c.loop-area.area-index x c.loop-area-test.true in
-    let pool : c.area_pool-balance.result.0 ≡ area_pool place (get_or c.args.areas.now c.loop-area.area-index x) =
-    c.area_pool-balance.ensures.value ∙ ap (area_pool place) c.area-item.is in
+    let more = total_more (area_pool index) c.args.areas.now c.loop-area.area-index x c.loop-area-test.true in
+    let pool : c.area_pool.result.0 ≡ area_pool index (get_or c.args.areas.now c.loop-area.area-index x) =
+    c.area_pool.ensures.value ∙ ap (area_pool index) c.area-item.is in
     record { value = omega (arith, ints, more, pool); within = omega (arith, ints) }

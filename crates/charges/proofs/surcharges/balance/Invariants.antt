@@ -6,6 +6,6 @@ use Rattle.charges.proofs.surcharges.balance.Given as goal
 
 abbrev pub invariant-loop-area : goal.invariant-loop-area
 invariant-loop-area l = record {
-  value : l.balance ≡ neg_ℤ (total (map (area_pool l.interval.place) (take l.area-index l.areas)));
-  within : unsigned_abs l.balance ≤ l.area-index * most_charge;
+  value : l.balance.0 ≡ neg_ℤ (total (map (area_pool l.interval.index) (take l.area-index l.areas)));
+  within : unsigned_abs l.balance.0 ≤ l.area-index * most_charge;
 }

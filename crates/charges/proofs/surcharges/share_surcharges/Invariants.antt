@@ -6,4 +6,4 @@ use Rattle.charges.proofs.surcharges.share_surcharges.Given as goal
 
 abbrev pub invariant-loop-area : goal.invariant-loop-area
 invariant-loop-area g l =
-    SharedSoFar (surcharge_fault l.parties l.interval.place) (λ a. g.R.SharingRule.shares l.rule (area_pool l.interval.place a) (weights l.interval.place a l.parties)) l.areas l.parties l.initial.column l.area-index l.column
+    SharedSoFar (surcharge_fault l.parties l.interval.index) (λ a. g.R.SharingRule.shares l.rule (area_pool l.interval.index a) (weights l.interval.index a l.parties)) l.areas l.parties l.initial.column l.area-index l.column

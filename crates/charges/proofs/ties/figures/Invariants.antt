@@ -3,4 +3,4 @@ use Rattle.rows.specs.Figures.{as_deemed}
 use Rattle.charges.proofs.ties.figures.Given as goal
 
 abbrev pub invariant-loop-i : goal.invariant-loop-i
-invariant-loop-i l = l.energies ≡ map (λ u. as_deemed u.0) (take l.i l.units) ++ drop l.i l.initial.energies
+invariant-loop-i l = l.energies ≡ map as_deemed (take l.i l.units) ++ drop l.i l.initial.energies

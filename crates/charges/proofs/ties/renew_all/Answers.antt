@@ -1,4 +1,4 @@
-use Rattle.std.proofs.Common.{◌≡◌, Ok, Err, ap, ◌∙◌, rules, arith}
+use Rattle.std.proofs.Common.{◌≡◌, Ok, Err, pos, ap, ◌∙◌, rules, arith}
 use Rattle.std.specs.Result.{MatchResult}
 use Rattle.std.proofs.lemmas.Result.{err_from_is_err_and, MatchResult-weaker}
 use Rattle.tables.specs.declared.refusal.Reason.TheVariants.{NoTieWeight}
@@ -15,7 +15,7 @@ use Rattle.charges.proofs.ties.renew_all.Goals.{After-map_err}
 tie_renewed : (g : Over) (c : After-map_err g) → RenewedOne (g.R.SharingRule.shares c.args.rule.now) c.index-resources-i.result c.renew.new.energies c.map_err.result
 tie_renewed g c =
     let tie = c.index-resources-i.result in
-    let answers : MatchResult c.renew.result (λ x. c.map_err.result ≡ Ok x) (λ f. c.map_err.result ≡ Err (fault_at NoTieWeight f.0 0 tie.id)) =
+    let answers : MatchResult c.renew.result (λ x. c.map_err.result ≡ Ok x) (λ f. c.map_err.result ≡ Err (fault_at NoTieWeight f.0 (pos 0) tie.id)) =
     MatchResult-weaker c.renew.result c.map_err.ensures.cases (λ x is. is) (λ f is. let p = err_from_is_err_and c.map_err.result is in p.1 ∙ ap Err (search rules)) in
     renewed_one (g.R.SharingRule.shares c.args.rule.now) tie _ _ c.renew.result c.map_err.result answers c.renew.ensures
 
