@@ -7,7 +7,7 @@ use Rattle.std.proofs.lemmas.List.Elements.{All-weaker}
 use Rattle.deemed.specs.Ranges.{hour_length}
 use Rattle.charges.specs.declared.amounts.HourAmounts.{HourAmounts}
 use Rattle.charges.specs.declared.code.ChargeCode.{ChargeCode}
-use Rattle.charges.specs.Charged.{at_place}
+use Rattle.charges.specs.Charged.{at_index}
 use Rattle.statement.specs.declared.line.Line.{Line}
 use Rattle.statement.specs.Lines.{total_of, come_to, new_lines}
 use Rattle.statement.proofs.Known.{Apart, interval_total}
@@ -32,9 +32,9 @@ module _ (runs : ℕ) (lines : List Line) (ids : List ℕ) (a : HourAmounts) (ap
   of_run run interval l = l.run == run && of_interval interval l
 
   -- after the run lines come to what the amounts do
-  pub total_after : (place : ℕ) → place < hour_length → interval_total t (length ids) (come_to (lines ++ new) ids place) ≡ interval_total t (length ids) (at_place a place)
+  pub total_after : (place : ℕ) → place < hour_length → interval_total t (length ids) (come_to (lines ++ new) ids place) ≡ interval_total t (length ids) (at_index a place)
   total_after place inside =
-      same_total (lines ++ new) ids place (come_to (lines ++ new) ids place) (at_place a place)
+      same_total (lines ++ new) ids place (come_to (lines ++ new) ids place) (at_index a place)
       (come_to_agrees (lines ++ new) ids place) (agrees_after (runs + 1) lines ids a apart place inside) t
 
   -- and if all lines of the interval came to what those of the parties and account 0 do, then they still do
@@ -45,7 +45,7 @@ module _ (runs : ℕ) (lines : List Line) (ids : List ℕ) (a : HourAmounts) (ap
       ∙ omega (arith, ints, before, total_after place inside, interval_change (runs + 1) lines ids a t place inside)
 
   -- where the amounts of each interval balance, and the lines did
-  module _ (amounts_balance : (place : ℕ) → place < hour_length → interval_total t (length ids) (at_place a place) ≡ pos 0)
+  module _ (amounts_balance : (place : ℕ) → place < hour_length → interval_total t (length ids) (at_index a place) ≡ pos 0)
       (balanced : (place : ℕ) → place < hour_length → interval_total t (length ids) (come_to lines ids place) ≡ pos 0) where
     -- the new lines do
     new_balance : (interval : ℕ) → total_of (of_interval interval) new ≡ pos 0

@@ -7,7 +7,7 @@ use Rattle.charges.specs.declared.amounts.IntervalAmounts.{IntervalAmounts}
 use Rattle.charges.specs.declared.code.ChargeCode.{ChargeCode}
 use Rattle.charges.specs.declared.code.ChargeCode.TheVariants.{Cc6470, Cc6474, Cc6475, Cc6476, Cc6477}
 use Rattle.charges.specs.Codes.{all_codes, column_under}
-use Rattle.charges.specs.Faults.{first_places}
+use Rattle.charges.specs.Faults.{first_indices}
 use Rattle.charges.proofs.Totals.{total_same}
 use Rattle.statement.specs.declared.line.Line.{Line}
 use Rattle.statement.specs.Lines.{total_of, cents_at, line, same_code, party_changes, parties_changes, interval_changes, balance_change, changes}
@@ -36,7 +36,7 @@ module _ (P : Line → Type 0) where
     interval_all ids parties balance =
         let g : ℕ → List Line = λ i. party_changes run place new earlier i (slice_index ids i) in
         let each = all_places (λ i. All P (g i)) (length ids) (λ i inside. party_all i (slice_index ids i) (λ code z. parties i code z inside)) in
-        All-push P (flat_map g (first_places (length ids))) (balance_change run place new earlier) (all_of_each g (first_places (length ids)) each)
+        All-push P (flat_map g (first_indices (length ids))) (balance_change run place new earlier) (all_of_each g (first_indices (length ids)) each)
         (balance (new.balance.0 -ℤ earlier.balance.0))
 
   pub changes_all : (run : ℕ) (new earlier : ℕ → IntervalAmounts) (ids : List ℕ) (n : ℕ)
@@ -48,7 +48,7 @@ module _ (P : Line → Type 0) where
       let each =
       all_places (λ place. All P (g place)) n
       (λ place inside. interval_all run place (new place) (earlier place) ids (λ i code z lt. parties place i code z inside lt) (λ z. balance place z inside)) in
-      all_of_each g (first_places n) each
+      all_of_each g (first_indices n) each
 
 if_of_difference : (b : Bool) (x y : ℤ) → cond b (x -ℤ y) (pos 0) ≡ cond b x (pos 0) -ℤ cond b y (pos 0)
 if_of_difference true x y = refl
@@ -84,14 +84,14 @@ module _ (test : Line → Bool) (t : ChargeCode → Bool) (run place : ℕ) (new
   whole_change ids same =
       let n = length ids in
       let g : ℕ → List Line = λ i. party_changes run place new earlier i (slice_index ids i) in
-      let parties : total_of test (flat_map g (first_places n)) ≡ over (party_total t new) n -ℤ over (party_total t earlier) n =
-      total_of-flat_map test g (first_places n)
+      let parties : total_of test (flat_map g (first_indices n)) ≡ over (party_total t new) n -ℤ over (party_total t earlier) n =
+      total_of-flat_map test g (first_indices n)
       ∙ over_same (λ i. total_of test (g i)) (λ i. party_total t new i -ℤ party_total t earlier i) n (λ i inside. party_change i (slice_index ids i) (same (slice_index ids i)))
-      ∙ total_of_differences (party_total t new) (party_total t earlier) (first_places n) in
+      ∙ total_of_differences (party_total t new) (party_total t earlier) (first_indices n) in
       let b = balance_change run place new earlier in
       let balance : total_of test (b ∷ []) ≡ cond (t Cc6476) new.balance.0 (pos 0) -ℤ cond (t Cc6476) earlier.balance.0 (pos 0) =
       balance_change_total test run place new earlier (t Cc6476) (same 0 Cc6476) ∙ if_of_difference (t Cc6476) new.balance.0 earlier.balance.0 in
-      omega (arith, ints, total_of-append test (flat_map g (first_places n)) (b ∷ []), parties, balance)
+      omega (arith, ints, total_of-append test (flat_map g (first_indices n)) (b ∷ []), parties, balance)
 
 -- by one that only lines of the party at a place pass
 module _ (test : Line → Bool) (run place : ℕ) (new earlier : IntervalAmounts) (ids : List ℕ) where
@@ -107,7 +107,7 @@ module _ (test : Line → Bool) (run place : ℕ) (new earlier : IntervalAmounts
       let one : over (λ j. total_of test (g j)) n ≡ total_of test (g i) =
       over_one (λ j. total_of test (g j)) n i inside
       (λ j lt apart. total_of_none test (g j) (party_all (λ l. test l ≡ false) run place new earlier j (slice_index ids j) (λ code z. others j code z lt apart))) in
-      omega (arith, ints, total_of-append test (flat_map g (first_places n)) (b ∷ []), total_of-flat_map test g (first_places n), one, none)
+      omega (arith, ints, total_of-append test (flat_map g (first_indices n)) (b ∷ []), total_of-flat_map test g (first_indices n), one, none)
 
   -- or that only account 0's line passes
   pub only_balance : ((j : ℕ) (code : ChargeCode) (z : ℤ) → j < length ids → test (line run place (slice_index ids j) code z) ≡ false)
@@ -121,7 +121,7 @@ module _ (test : Line → Bool) (run place : ℕ) (new earlier : IntervalAmounts
       let none : over (λ j. total_of test (g j)) n ≡ pos 0 =
       over_none (λ j. total_of test (g j)) n
       (λ j lt. total_of_none test (g j) (party_all (λ l. test l ≡ false) run place new earlier j (slice_index ids j) (λ code z. others j code z lt))) in
-      omega (arith, ints, total_of-append test (flat_map g (first_places n)) (b ∷ []), total_of-flat_map test g (first_places n), one, none)
+      omega (arith, ints, total_of-append test (flat_map g (first_indices n)) (b ∷ []), total_of-flat_map test g (first_indices n), one, none)
 
 -- by one that only lines of one interval pass
 pub only_interval : (test : Line → Bool) (run : ℕ) (new earlier : ℕ → IntervalAmounts) (ids : List ℕ) (n place : ℕ) → place < n
@@ -130,7 +130,7 @@ pub only_interval : (test : Line → Bool) (run : ℕ) (new earlier : ℕ → In
 unfolding changes
 only_interval test run new earlier ids n place inside others =
     let g : ℕ → List Line = λ i. interval_changes run i (new i) (earlier i) ids in
-    total_of-flat_map test g (first_places n)
+    total_of-flat_map test g (first_indices n)
     ∙ over_one (λ i. total_of test (g i)) n place inside
     (λ i lt apart. total_of_none test (g i)
     (interval_all (λ l. test l ≡ false) run i (new i) (earlier i) ids (λ j code z in'. others i (slice_index ids j) code z apart) (λ z. others i 0 Cc6476 z apart)))

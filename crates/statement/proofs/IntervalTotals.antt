@@ -10,7 +10,7 @@ use Rattle.charges.specs.declared.code.ChargeCode.{ChargeCode}
 use Rattle.charges.specs.declared.code.ChargeCode.TheVariants.{Cc6470, Cc6474, Cc6475, Cc6476, Cc6477}
 use Rattle.charges.specs.Amounts.{cents, no_cents}
 use Rattle.charges.specs.Codes.{all_codes, column_under}
-use Rattle.charges.specs.Faults.{first_places}
+use Rattle.charges.specs.Faults.{first_indices}
 use Rattle.charges.proofs.Totals.{total_of_sums, total_at_front}
 use Rattle.statement.specs.declared.line.Line.{Line}
 use Rattle.statement.specs.Lines.{cents_at, tally, come_to, billed, is_surcharge, same_code}
@@ -39,7 +39,7 @@ same_total lines ids place x y xs ys t =
 
 -- with nothing behind, totals are those of columns
 module _ (n : ℕ) (x : IntervalAmounts) (few : n ≤ most_parties) (behind : Behind n x) where
-  column_total : (code : ChargeCode) → total (map (cents_at (column_under code x)) (first_places n)) ≡ total (cents (column_under code x))
+  column_total : (code : ChargeCode) → total (map (cents_at (column_under code x)) (first_indices n)) ≡ total (cents (column_under code x))
   column_total code =
       let column : List Cents = column_under code x in
       let b = behind code in
@@ -57,7 +57,7 @@ module _ (n : ℕ) (x : IntervalAmounts) (few : n ≤ most_parties) (behind : Be
   other_total =
       let at : ChargeCode → ℕ → ℤ = λ code i. stands x i code in
       let of_party : ℕ → ℤ = λ i. at Cc6470 i +ℤ at Cc6474 i +ℤ at Cc6475 i +ℤ at Cc6477 i in
-      let places : List ℕ = first_places n in
+      let places : List ℕ = first_indices n in
       let parties = over_same (party_total (λ c. not (is_surcharge c)) x) of_party n (λ i inside. omega (arith, ints)) in
       omega (
         arith,

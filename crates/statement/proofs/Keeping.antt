@@ -5,7 +5,7 @@ use Rattle.std.proofs.lemmas.List.Elements.{All-replicate}
 use Rattle.sharing.specs.Laws.{Lawful}
 use Rattle.tables.specs.declared.refusal.Reason.{Reason}
 use Rattle.tables.specs.declared.refusal.Refusal.{Refusal}
-use Rattle.tables.specs.Refusals.{first_fit, left}
+use Rattle.tables.specs.Refusals.{first_fit, state_after}
 use Rattle.deemed.specs.Ranges.{hour_length}
 use Rattle.records.specs.declared.call.Call.{Call}
 use Rattle.records.specs.Ranges.{most_parties}
@@ -19,7 +19,7 @@ use Rattle.charges.specs.declared.code.ChargeCode.TheVariants.{Cc6470, Cc6474, C
 use Rattle.charges.specs.Amounts.{no_cents, no_amounts}
 use Rattle.charges.specs.Codes.{column_under}
 use Rattle.charges.specs.Faults.{hour_faults}
-use Rattle.charges.specs.Charged.{Bounded, IntervalLaws, HourCharged, HourLaws, renewed, at_place}
+use Rattle.charges.specs.Charged.{Bounded, IntervalLaws, HourCharged, HourLaws, renewed, at_index}
 use Rattle.charges.specs.Ranges.{most_amount}
 use Rattle.charges.proofs.Determined.{alike_itself}
 use Rattle.statement.specs.declared.run.Run.{Run}
@@ -91,7 +91,7 @@ kept_taken c b totals kept = record {
         rw grown (grown_tallied b.lines.rows (ids b) more apart.few place (unbilled (ids b) more apart b.lines.rows before.accounts place) (at totals place) tallied)
 
     either : (place : ℕ) → Tallied b.lines.rows (ids b) place (at totals place) → (o : Option Reason) → first_fit (reasons c b.records) ≡ o
-        → let after : Statement = left o (with_records (made_by c b.records) b) b in Tallied after.lines.rows (ids after) place (at totals place)
+        → let after : Statement = state_after o (with_records (made_by c b.records) b) b in Tallied after.lines.rows (ids after) place (at totals place)
     either place tallied None e = accepted place tallied e
     either place tallied (Some r) e = tallied
 
@@ -101,7 +101,7 @@ small_amounts shares b a laws place inside =
     let here = laws.intervals place inside in
     record { columns = each here; balance = here.bounded_balance }
   where
-    each : IntervalLaws b.records.areas.rows b.records.parties.rows (renewed shares b.records) place (at_place a place) → (code : ChargeCode) → Bounded (column_under code (at a.intervals place))
+    each : IntervalLaws b.records.areas.rows b.records.parties.rows (renewed shares b.records) place (at_index a place) → (code : ChargeCode) → Bounded (column_under code (at a.intervals place))
     each here Cc6470 = here.bounded_6470
     each here Cc6474 = here.bounded_6474
     each here Cc6475 = here.bounded_6475
@@ -132,7 +132,7 @@ kept_run {shares} lawful b totals kept a r unrefused charged laws settled =
       history = settle lawful settled kept.history;
       small = small_amounts shares b a laws;
       tallied = λ place inside.
-          let behind : Behind (length (ids b)) (at_place a place) = subst (λ n. Behind n (at_place a place)) (sym long) (charged_behind (charged.intervals place inside) few) in
-          tallied_of (lines ++ new_lines (b.runs + 1) lines (ids b) a) (ids b) place (at_place a place) apart.few behind
+          let behind : Behind (length (ids b)) (at_index a place) = subst (λ n. Behind n (at_index a place)) (sym long) (charged_behind (charged.intervals place inside) few) in
+          tallied_of (lines ++ new_lines (b.runs + 1) lines (ids b) a) (ids b) place (at_index a place) apart.few behind
           (agrees_after (b.runs + 1) lines (ids b) a apart place inside);
     }

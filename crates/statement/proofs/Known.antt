@@ -12,8 +12,8 @@ use Rattle.charges.specs.declared.code.ChargeCode.TheVariants.{Cc6476, Cc6477}
 use Rattle.charges.specs.Amounts.{no_cents}
 use Rattle.charges.specs.Codes.{all_codes, column_under}
 use Rattle.charges.specs.Energies.{EnergyLaws}
-use Rattle.charges.specs.Faults.{first_places}
-use Rattle.charges.specs.Charged.{IntervalCharged, IntervalLaws, at_place}
+use Rattle.charges.specs.Faults.{first_indices}
+use Rattle.charges.specs.Charged.{IntervalCharged, IntervalLaws, at_index}
 use Rattle.statement.specs.declared.line.Line.{Line}
 use Rattle.statement.specs.declared.statement.Statement.{Statement}
 use Rattle.statement.specs.Ranges.{most_lines, most_runs}
@@ -38,7 +38,7 @@ party_total t x i = total (map (λ code. cond (t code) (cents_at (column_under c
 
 -- and what the first so many parties and account 0 have
 unfoldable pub interval_total : (ChargeCode → Bool) → ℕ → IntervalAmounts → ℤ
-interval_total t n x = total (map (party_total t x) (first_places n)) +ℤ cond (t Cc6476) x.balance.0 (pos 0)
+interval_total t n x = total (map (party_total t x) (first_indices n)) +ℤ cond (t Cc6476) x.balance.0 (pos 0)
 
 -- amounts are, party by party, what lines come to
 pub record Agrees (lines : List Line) (ids : List ℕ) (place : ℕ) (x : IntervalAmounts) : Type 0 where
@@ -53,9 +53,9 @@ Behind n x = (code : ChargeCode) → (length (column_under code x) ≡ most_part
 pub record Billed (b : Statement) : Type 0 where
   pub shares : ℤ → List ℕ → List ℤ
   pub amounts : HourAmounts
-  pub tallied : (place : ℕ) → place < hour_length → Tallied b.lines.rows (ids b) place (at_place amounts place)
-  pub charged : (place : ℕ) → place < hour_length → IntervalCharged shares b.records.areas.rows b.records.parties.rows b.records.resources.rows place (at_place amounts place)
-  pub laws : (place : ℕ) → place < hour_length → IntervalLaws b.records.areas.rows b.records.parties.rows b.records.resources.rows place (at_place amounts place)
+  pub tallied : (place : ℕ) → place < hour_length → Tallied b.lines.rows (ids b) place (at_index amounts place)
+  pub charged : (place : ℕ) → place < hour_length → IntervalCharged shares b.records.areas.rows b.records.parties.rows b.records.resources.rows place (at_index amounts place)
+  pub laws : (place : ℕ) → place < hour_length → IntervalLaws b.records.areas.rows b.records.parties.rows b.records.resources.rows place (at_index amounts place)
   pub energies : All (λ r. EnergyLaws r r.deemed) b.records.resources.rows
 
 -- what holds along every history

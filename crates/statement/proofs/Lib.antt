@@ -10,6 +10,7 @@ pub mod KnownIds
 pub mod AfterRun
 pub mod Renewed
 pub mod Reaching
+pub mod LastPosts
 pub mod Promised
 pub mod SameChanges
 pub mod Keeping
@@ -17,3 +18,4 @@ pub mod OneOutcome
 pub mod Seen
 pub mod Adding
 pub mod Settling
+pub mod Reading

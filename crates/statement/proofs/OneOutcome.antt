@@ -3,12 +3,12 @@ use Rattle.std.proofs.Common.{◌≡◌, ℕ, ◌+◌, true, List, [], ◌∷◌
 use Rattle.deemed.specs.Ranges.{hour_length}
 use Rattle.tables.specs.declared.refusal.Reason.TheVariants.{LinesFull}
 use Rattle.tables.specs.declared.refusal.Refusal.{Refusal}
-use Rattle.tables.specs.Refusals.{◌unless◌, first_fit, left}
+use Rattle.tables.specs.Refusals.{◌unless◌, first_fit, state_after}
 use Rattle.tables.specs.Tables.{has_room_for, with_rows}
 use Rattle.tables.proofs.Firsts.{first_fit-front}
 use Rattle.records.specs.Sound.{Sound}
 use Rattle.charges.specs.declared.amounts.HourAmounts.{HourAmounts}
-use Rattle.charges.specs.Charged.{HourCharged, at_place}
+use Rattle.charges.specs.Charged.{HourCharged, at_index}
 use Rattle.charges.proofs.Determined.{determined, alike_itself}
 use Rattle.statement.specs.declared.statement.Statement.{Statement}
 use Rattle.statement.specs.Lines.{is_billed, come_to}
@@ -35,7 +35,7 @@ same_added : (shares : ℤ → List ℕ → List ℤ) (before : Statement) (a c 
 same_added shares before a c sound one other =
     let earlier = come_to before.lines.rows (ids before) in
     ap (filter is_billed)
-    (same_changes (before.runs + 1) (at_place a) (at_place c) earlier earlier (ids before) hour_length
+    (same_changes (before.runs + 1) (at_index a) (at_index c) earlier earlier (ids before) hour_length
     (λ place inside. determined sound.homes (one.intervals place inside) (other.intervals place inside)) (λ place inside. alike_itself (earlier place)))
 
 pub one_outcome : OneOutcome
@@ -52,7 +52,7 @@ one_outcome shares before one other r s history settled settled' = by_fit (first
     by_fit None e =
         let same : added a before ≡ added c before = same_added shares before a c (reached before history).sound (settled.charged e) (settled'.charged e) in
         let fit = same_fit shares before a c same in (
-          settled.statement ∙ (λ k. left (fit k) (same_run shares before a c same k) before) ∙ sym settled'.statement,
+          settled.statement ∙ (λ k. state_after (fit k) (same_run shares before a c same k) before) ∙ sym settled'.statement,
           settled.answer ∙ ap (λ o. settle_answer o a before) fit ∙ same_answer shares before a c same (first_fit (settle_reasons shares c before)) ∙ sym settled'.answer,
         )
     -- whatever they are, it is refused

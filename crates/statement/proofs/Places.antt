@@ -10,7 +10,7 @@ use Rattle.sharing.specs.Laws.{total}
 use Rattle.sharing.proofs.Totals.{total-cons}
 use Rattle.rows.specs.declared.figures.Cents.{Cents}
 use Rattle.charges.specs.Amounts.{no_cents, cents}
-use Rattle.charges.specs.Faults.{first_places}
+use Rattle.charges.specs.Faults.{first_indices}
 use Rattle.statement.specs.Lines.{cents_at}
 
 pub total-append : (xs ys : List ℤ) → total (xs ++ ys) ≡ total xs +ℤ total ys
@@ -22,20 +22,20 @@ total_of_differences f g [] = refl
 total_of_differences f g (x ∷ xs) =
     omega (arith, ints, total_of_differences f g xs, total-cons (f x -ℤ g x) (map (λ x. f x -ℤ g x) xs), total-cons (f x) (map f xs), total-cons (g x) (map g xs))
 
-pub all_places : (P : ℕ → Type 0) (n : ℕ) → ((i : ℕ) → i < n → P i) → All P (first_places n)
+pub all_places : (P : ℕ → Type 0) (n : ℕ) → ((i : ℕ) → i < n → P i) → All P (first_indices n)
 all_places P zero each = All-nil P
-all_places P (suc n) each = All-push P (first_places n) n (all_places P n (λ i below. each i (omega arith))) (each n (omega arith))
+all_places P (suc n) each = All-push P (first_indices n) n (all_places P n (λ i below. each i (omega arith))) (each n (omega arith))
 
 -- what there is of the first so many places, and of one more
-pub places_more : {X : Type 0} (f : ℕ → List X) (n : ℕ) → flat_map f (first_places (n + 1)) ≡ flat_map f (first_places n) ++ f n
+pub places_more : {X : Type 0} (f : ℕ → List X) (n : ℕ) → flat_map f (first_indices (n + 1)) ≡ flat_map f (first_indices n) ++ f n
 places_more f n =
-    ap (λ m. flat_map f (first_places m)) (add-one n) ∙ flat_map-append f (first_places n) (n ∷ []) ∙ ap (λ l. flat_map f (first_places n) ++ l) (append-nil (f n))
+    ap (λ m. flat_map f (first_indices m)) (add-one n) ∙ flat_map-append f (first_indices n) (n ∷ []) ∙ ap (λ l. flat_map f (first_indices n) ++ l) (append-nil (f n))
 
 abbrev pub over : (ℕ → ℤ) → ℕ → ℤ
-over f n = total (map f (first_places n))
+over f n = total (map f (first_indices n))
 
 pub over_next : (f : ℕ → ℤ) (n : ℕ) → over f (suc n) ≡ over f n +ℤ f n
-over_next f n = ap total (map-append f (first_places n) (n ∷ [])) ∙ total-append (map f (first_places n)) (f n ∷ []) ∙ omega (arith, ints)
+over_next f n = ap total (map-append f (first_indices n) (n ∷ [])) ∙ total-append (map f (first_indices n)) (f n ∷ []) ∙ omega (arith, ints)
 
 -- the same numbers have the same total
 pub over_same : (f g : ℕ → ℤ) (n : ℕ) → ((i : ℕ) → i < n → f i ≡ g i) → over f n ≡ over g n

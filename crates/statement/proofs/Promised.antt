@@ -8,7 +8,7 @@ use Rattle.std.proofs.lemmas.List.Elements.{All-nil, All-cons, All-head, All-tai
 use Rattle.sharing.specs.Laws.{total}
 use Rattle.tables.specs.Tables as tables
 use Rattle.deemed.specs.Ranges.{hour_length}
-use Rattle.deemed.specs.Deemed.{NearPart}
+use Rattle.deemed.specs.Pools.{NearPart}
 use Rattle.rows.specs.declared.figures.Cents.{Cents}
 use Rattle.rows.specs.declared.area.Area.{Area}
 use Rattle.rows.specs.declared.party.Party.{Party}
@@ -22,7 +22,7 @@ use Rattle.charges.specs.declared.code.ChargeCode.TheVariants.{Cc6470, Cc6474, C
 use Rattle.charges.specs.Columns.{parties_in, entries_in, cents_in, weight, weights}
 use Rattle.charges.specs.Amounts.{column, amount_6470, amount_6474, amount_6475, offset_pool, rest}
 use Rattle.charges.specs.Codes.{column_under}
-use Rattle.charges.specs.Charged.{at_place, offset_shares_of}
+use Rattle.charges.specs.Charged.{at_index, offset_shares_of}
 use Rattle.statement.specs.declared.statement.Statement.{Statement}
 use Rattle.statement.specs.Lines.{cents_at, billed, come_to, same_code}
 use Rattle.statement.specs.Statements.{ids}
@@ -66,7 +66,7 @@ module _ (b : Statement) (known : Reached b) (settled : b.settled ≡ true) (pla
   of_billed = known.billed settled
 
   abbrev amounts : IntervalAmounts
-  amounts = at_place of_billed.amounts place
+  amounts = at_index of_billed.amounts place
 
   abbrev party_billed : ChargeCode → Party → ℤ
   party_billed code p = billed b.lines.rows code place p.id
@@ -108,7 +108,7 @@ module _ (b : Statement) (known : Reached b) (settled : b.settled ≡ true) (pla
       let lines = b.lines.rows in
       let laws = of_billed.laws place inside in
       let tallied = of_billed.tallied place inside in
-      let few : length parties ≤ most_parties = let t = known.sound.parties in omega (arith, t.fits, t.bound) in
+      let few : length parties ≤ most_parties = let t = known.sound.parties in omega (arith, t.within_room, t.bound) in
       let behind = charged_behind (of_billed.charged place inside) few in
       let same = same_total lines (ids b) place (come_to lines (ids b) place) amounts (come_to_agrees lines (ids b) place) (agrees_of lines (ids b) place amounts tallied) (λ c. same_code c Cc6477) in
       record {
@@ -123,12 +123,12 @@ module _ (b : Statement) (known : Reached b) (settled : b.settled ≡ true) (pla
         offset_parts = λ k d lt ciso. let a = get_or areas k d in at_parties (Near (offset_pool b.records.resources.rows parties place) a) Cc6477 a.id (laws.offset_near k d lt ciso);
       }
 
-found_any : (rows : List Party) (account : ℕ) → is_some (tables.found party_id account rows) ≡ list_any (λ id. id == account) (map party_id rows)
+found_any : (rows : List Party) (account : ℕ) → is_some (tables.row_under party_id account rows) ≡ list_any (λ id. id == account) (map party_id rows)
 found_any [] account = refl
 found_any (p ∷ ps) account = ⊎_elim (λ own. rw own refl) (λ other. rw other (found_any ps account)) (cases_Bool (p.id == account))
 
 -- a known account that is not 0 is a party's
-of_party : (rows : List Party) (account : ℕ) → known (map party_id rows) account ≡ true → account ≢ 0 → is_some (tables.found party_id account rows) ≡ true
+of_party : (rows : List Party) (account : ℕ) → known (map party_id rows) account ≡ true → account ≢ 0 → is_some (tables.row_under party_id account rows) ≡ true
 of_party rows account e some = rw (found_any rows account) (grind (arith, e, some))
 
 sound_lines : (b : Statement) → Reached b → SoundLines b

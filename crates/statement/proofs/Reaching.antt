@@ -4,22 +4,23 @@
 use Rattle.std.proofs.Common.{◌≡◌, ◌≢◌, ℕ, ◌+◌, ◌<◌, ◌≤◌, Bool, true, not, List, [], ◌∷◌, ◌++◌, map, length, get_or, min, ℤ, pos, slice_index, None, Result, refl, sym, ap, subst, ◌∙◌, ⊎_elim, ◌==◌, eq-eqb, arith, true≢false}
 use Rattle.std.proofs.lemmas.Bool.{cases_Bool, cases_lt, cases_order}
 use Rattle.std.proofs.lemmas.Bool.Decides.{nat_tests}
+use Rattle.std.proofs.lemmas.Int.{ints}
 use Rattle.std.proofs.lemmas.List.{length-append, length-map, get_or-map}
 use Rattle.std.proofs.lemmas.List.Elements.{All-nil, All-append, All-weaker}
 use Rattle.sharing.specs.Laws.{Lawful}
 use Rattle.tables.specs.declared.refusal.Refusal.{Refusal}
-use Rattle.tables.specs.Ranges.{in_range, is_id}
+use Rattle.tables.specs.Ranges.{last_id, is_id, within}
 use Rattle.tables.specs.Keyed.{Keyed}
 use Rattle.tables.specs.Tables as tables
 use Rattle.tables.specs.Tables.{has_room_for}
-use Rattle.tables.specs.Refusals.{Fit, first_fit, left, refused_as}
-use Rattle.tables.proofs.Fits.{left_either}
+use Rattle.tables.specs.Refusals.{Fit, first_fit, state_after, reason_as}
+use Rattle.tables.proofs.Fits.{state_after_either}
 use Rattle.tables.proofs.Firsts.{first_fit-neither, first_fit-none_told}
 use Rattle.deemed.specs.Ranges.{hour_length}
 use Rattle.rows.specs.declared.party.Party.{Party}
 use Rattle.rows.specs.Rows.{new_party}
 use Rattle.records.specs.declared.call.Call.{Call}
-use Rattle.records.specs.declared.hour.Hour.{Hour}
+use Rattle.records.specs.View.{Hour}
 use Rattle.records.specs.Ranges.{most_areas, most_parties, most_resources}
 use Rattle.records.specs.Hours as hours
 use Rattle.records.specs.Hours.{area_id, party_id, resource_id}
@@ -31,7 +32,7 @@ use Rattle.charges.specs.declared.code.ChargeCode.{ChargeCode}
 use Rattle.charges.specs.declared.fault.ChargeFault.{ChargeFault}
 use Rattle.charges.specs.declared.code.ChargeCode.TheVariants.{Cc6476, Cc6477}
 use Rattle.charges.specs.Faults.{hour_faults, refusal_of}
-use Rattle.charges.specs.Charged.{HourCharged, HourLaws, renewed, at_place}
+use Rattle.charges.specs.Charged.{HourCharged, HourLaws, renewed, at_index}
 use Rattle.charges.proofs.Hours.{hour_laws, renewed_laws}
 use Rattle.statement.specs.declared.line.Line.{Line}
 use Rattle.statement.specs.declared.run.Run.{Run}
@@ -52,8 +53,7 @@ use Rattle.statement.proofs.IntervalTotals.{surcharge_total, other_total, grown_
 use Rattle.statement.proofs.Renewed.{sound_renewed}
 
 not_id_0 : (n : ℕ) → is_id (pos n) ≡ true → n ≢ 0
-unfolding in_range
-not_id_0 n e same = true≢false (sym e ∙ ap (λ k. is_id (pos k)) same)
+not_id_0 n e same = let in' = within (pos 1) (pos last_id) (pos n) e in omega (arith, ints)
 
 -- the ids of sound records
 pub apart_ids : (b : Statement) → Sound b.records → Apart (ids b)
@@ -70,13 +70,13 @@ apart_ids b sound =
           (⊎_elim (λ less. absurd (apart i j less (omega arith) same)) (λ more. absurd (apart j i more (omega arith) (sym same))))
           (cases_order i j);
       not_0 = λ i inside. rw (at i (omega arith)) (not_id_0 (party_id (get_or rows i d)) (sound.parties.ids i d (omega arith)));
-      few = let fits = sound.parties.fits in let bound = sound.parties.bound in omega arith;
+      few = let fits = sound.parties.within_room in let bound = sound.parties.bound in omega arith;
     }
 
 -- a table with no rows
-keyed_opened : {T : Type 0} (key : T → ℕ) (full most : ℕ) → most ≤ full → Keyed key full (tables.opened most)
+keyed_opened : {T : Type 0} (key : T → ℕ) (full most : ℕ) → most ≤ full → Keyed key full (tables.new_table most)
 keyed_opened {T} key full most bound = record {
-  fits = omega arith;
+  within_room = omega arith;
   bound = bound;
   ids = All-nil (λ x. is_id (pos (key x)) ≡ true);
   distinct = λ i j d less inside. absurd (omega arith);
@@ -92,6 +92,8 @@ sound_opened areas parties resources = record {
   homes = λ i d inside. absurd (omega arith);
   owners = λ i d inside. absurd (omega arith);
   as_entered = λ i d inside. absurd (omega arith);
+  undeemed = λ i d inside. absurd (omega arith);
+  without_nopay = λ i d inside. absurd (omega arith);
   whole_areas = λ i d inside. absurd (omega arith);
   whole_parties = λ i d inside. absurd (omega arith);
   whole_resources = λ i d inside. absurd (omega arith);
@@ -150,10 +152,10 @@ grown b h sound grows reached =
 pub reached_taken : (c : Call) (b : Statement) → Reached b → Reached (taken c b)
 reached_taken c b reached =
     let h : Hour = b.records in
-    left_either Reached (first_fit (reasons c h)) b (with_records (made_by c h) b)
+    state_after_either Reached (first_fit (reasons c h)) b (with_records (made_by c h) b)
     (λ none.
     let lasts : Sound (made_by c h) × Grows h (made_by c h) =
-    subst (λ o. Sound (left o (made_by c h) h) × Grows h (left o (made_by c h) h)) none (lasts_left c h reached.sound) in
+    subst (λ o. Sound (state_after o (made_by c h) h) × Grows h (state_after o (made_by c h) h)) none (lasts_left c h reached.sound) in
     grown b (made_by c h) lasts.0 lasts.1 reached)
     reached
 
@@ -168,12 +170,12 @@ reached_run {shares} lawful b reached a unrefused charged run_left room =
     let laws : HourLaws b.records (renewed shares b.records) a = hour_laws lawful b.records reached.sound unrefused a charged in
     let long : length (ids b) ≡ length b.records.parties.rows = length-map b.records.parties.rows party_id in
     let few : length b.records.parties.rows ≤ most_parties = let few = apart.few in omega arith in
-    let behind : (place : ℕ) → place < hour_length → Behind (length (ids b)) (at_place a place) =
-    λ place inside. subst (λ n. Behind n (at_place a place)) (sym long) (charged_behind (charged.intervals place inside) few) in
-    let surcharges : (place : ℕ) → place < hour_length → interval_total is_surcharge (length (ids b)) (at_place a place) ≡ pos 0 =
-    λ place inside. surcharge_total (length (ids b)) (at_place a place) apart.few (behind place inside) ∙ (laws.intervals place inside).surcharges_balance in
-    let others : (place : ℕ) → place < hour_length → interval_total (λ c. not (is_surcharge c)) (length (ids b)) (at_place a place) ≡ pos 0 =
-    λ place inside. other_total (length (ids b)) (at_place a place) apart.few (behind place inside) ∙ (laws.intervals place inside).others_balance in
+    let behind : (place : ℕ) → place < hour_length → Behind (length (ids b)) (at_index a place) =
+    λ place inside. subst (λ n. Behind n (at_index a place)) (sym long) (charged_behind (charged.intervals place inside) few) in
+    let surcharges : (place : ℕ) → place < hour_length → interval_total is_surcharge (length (ids b)) (at_index a place) ≡ pos 0 =
+    λ place inside. surcharge_total (length (ids b)) (at_index a place) apart.few (behind place inside) ∙ (laws.intervals place inside).surcharges_balance in
+    let others : (place : ℕ) → place < hour_length → interval_total (λ c. not (is_surcharge c)) (length (ids b)) (at_index a place) ≡ pos 0 =
+    λ place inside. other_total (length (ids b)) (at_index a place) apart.few (behind place inside) ∙ (laws.intervals place inside).others_balance in
     record {
       sound = sound_renewed lawful b.records reached.sound;
       accounts = All-append (λ l. known (ids b) l.account ≡ true) lines new reached.accounts (accounts_known (b.runs + 1) lines (ids b) a);
@@ -193,7 +195,7 @@ reached_run {shares} lawful b reached a unrefused charged run_left room =
         shares = shares;
         amounts = a;
         tallied = λ place inside.
-            tallied_of (lines ++ new) (ids b) place (at_place a place) apart.few (behind place inside) (agrees_after (b.runs + 1) lines (ids b) a apart place inside);
+            tallied_of (lines ++ new) (ids b) place (at_index a place) apart.few (behind place inside) (agrees_after (b.runs + 1) lines (ids b) a apart place inside);
         charged = charged.intervals;
         laws = laws.intervals;
         energies = renewed_laws lawful b.records reached.sound unrefused;
@@ -204,12 +206,12 @@ pub reached_settled : {shares : ℤ → List ℕ → List ℤ} → Lawful shares
     → Reached after
 reached_settled {shares} lawful before after r reached settled =
     subst Reached (sym settled.statement)
-    (left_either Reached (first_fit (settle_reasons shares settled.amounts before)) before (with_run shares settled.amounts before)
+    (state_after_either Reached (first_fit (settle_reasons shares settled.amounts before)) before (with_run shares settled.amounts before)
     (λ none.
     let h : Hour = before.records in
     let faults : List (Fit ChargeFault) = hour_faults shares h.areas.rows h.parties.rows h.resources.rows in
     let both = first_fit-neither (reasons_before_work shares before) _ none in
-    let told = first_fit-neither (_ ∷ []) (map (refused_as refusal_of) faults) both.0 in
+    let told = first_fit-neither (_ ∷ []) (map (reason_as refusal_of) faults) both.0 in
     reached_run lawful before reached settled.amounts (first_fit-none_told refusal_of faults told.1) (settled.charged both.0)
     (λ last. let e : (before.runs == most_runs) ≡ true = eq-eqb before.runs most_runs last in absurd (let no = rw e at told.0 in cc))
     (grind (arith, both.1)))

@@ -4,7 +4,7 @@ use Rattle.std.specs.List.{flat_map}
 use Rattle.std.proofs.lemmas.Grind.{flat_map-append}
 use Rattle.charges.specs.declared.amounts.IntervalAmounts.{IntervalAmounts}
 use Rattle.charges.specs.declared.code.ChargeCode.TheVariants.{Cc6476}
-use Rattle.charges.specs.Faults.{first_places}
+use Rattle.charges.specs.Faults.{first_indices}
 use Rattle.charges.proofs.Determined.{Alike}
 use Rattle.statement.specs.declared.line.Line.{Line}
 use Rattle.charges.specs.Codes.{all_codes}
@@ -15,15 +15,15 @@ same_in : (run place : ℕ) (ids : List ℕ) {new new' earlier earlier' : Interv
     → interval_changes run place new earlier ids ≡ interval_changes run place new' earlier' ids
 unfolding interval_changes parties_changes party_changes
 same_in run place ids a e =
-    λ k. flat_map (λ i. map (λ code. line run place (slice_index ids i) code (cents_at (a.columns code k) i -ℤ cents_at (e.columns code k) i)) all_codes) (first_places (length ids))
+    λ k. flat_map (λ i. map (λ code. line run place (slice_index ids i) code (cents_at (a.columns code k) i -ℤ cents_at (e.columns code k) i)) all_codes) (first_indices (length ids))
     ++ line run place 0 Cc6476 (a.balance k -ℤ e.balance k) ∷ []
 
 -- lists of lines by places are the same where they are at each place
-below : (f g : ℕ → List Line) (n : ℕ) → ((place : ℕ) → place < n → f place ≡ g place) → flat_map f (first_places n) ≡ flat_map g (first_places n)
+below : (f g : ℕ → List Line) (n : ℕ) → ((place : ℕ) → place < n → f place ≡ g place) → flat_map f (first_indices n) ≡ flat_map g (first_indices n)
 below f g zero same = refl
 below f g (suc n) same =
-    flat_map-append f (first_places n) (n ∷ []) ∙ (λ k. below f g n (λ place inside. same place (omega arith)) k ++ (same n (omega arith) k ++ []))
-    ∙ sym (flat_map-append g (first_places n) (n ∷ []))
+    flat_map-append f (first_indices n) (n ∷ []) ∙ (λ k. below f g n (λ place inside. same place (omega arith)) k ++ (same n (omega arith) k ++ []))
+    ∙ sym (flat_map-append g (first_indices n) (n ∷ []))
 
 -- in the first so many intervals
 pub same_changes : (run : ℕ) (new new' earlier earlier' : ℕ → IntervalAmounts) (ids : List ℕ) (n : ℕ)

@@ -6,7 +6,7 @@ use Rattle.tables.specs.declared.refusal.Refusal.{Refusal}
 use Rattle.tables.specs.declared.refusal.Reason.TheVariants.{LinesFull}
 use Rattle.tables.specs.Refusals.{Fit, first_fit, ◌unless◌}
 use Rattle.tables.specs.Tables.{has_room_for, with_rows}
-use Rattle.tables.proofs.Firsts.{first_fit-append, first_fit-front, first_fit-refused_as, first_fit-none_told}
+use Rattle.tables.proofs.Firsts.{first_fit-append, first_fit-front, first_fit-reason_as, first_fit-none_told}
 use Rattle.deemed.specs.Ranges.{hour_length}
 use Rattle.rows.specs.declared.party.Party.{Party}
 use Rattle.records.specs.Hours.{party_id}
@@ -34,7 +34,7 @@ module _ (shares : ℤ → List ℕ → List ℤ) (b : Statement) where
 
   -- where a run is left, the first reason is the first fault, told as a refusal
   first_fault : (b.runs == most_runs) ≡ false → first_fit (reasons_before_work shares b) ≡ option_map refusal_of (first_fit faults)
-  first_fault run_left = rw run_left (first_fit-refused_as refusal_of faults)
+  first_fault run_left = rw run_left (first_fit-reason_as refusal_of faults)
 
   pub hour_worked_out : (b.runs == most_runs) ≡ false → (worked : Result HourAmounts ChargeFault) (r : Result HourAmounts Refusal)
       → MatchResult worked (λ a. r ≡ Ok a) (λ f. r ≡ Err (refusal_of f)) → WorkedOut shares b.records worked → HourWorkedOut shares b r

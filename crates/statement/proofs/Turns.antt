@@ -11,8 +11,8 @@ use Rattle.charges.specs.declared.amounts.HourAmounts.{HourAmounts}
 use Rattle.charges.specs.declared.code.ChargeCode.{ChargeCode}
 use Rattle.charges.specs.declared.code.ChargeCode.TheVariants.{Cc6476}
 use Rattle.charges.specs.Codes.{all_codes, charge_code_number, column_under}
-use Rattle.charges.specs.Faults.{first_places}
-use Rattle.charges.specs.Charged.{at_place}
+use Rattle.charges.specs.Faults.{first_indices}
+use Rattle.charges.specs.Charged.{at_index}
 use Rattle.statement.specs.declared.line.Line.{Line}
 use Rattle.statement.specs.Lines.{line, cents_at, is_billed, come_to, party_changes, parties_changes, balance_change, interval_changes, changes, new_lines}
 use Rattle.statement.specs.Promises.{IsLine, InTurn}
@@ -39,14 +39,14 @@ module _ {X : Type 0} (R : X → X → Type 0) where
 
 -- of the lists of the first so many places
 pairs_of_places : (R : Line → Line → Type 0) (g : ℕ → List Line) (n : ℕ) → ((i : ℕ) → i < n → AllPairs R (g i))
-    → ((i j : ℕ) → i < j → j < n → All (λ l. All (R l) (g j)) (g i)) → AllPairs R (flat_map g (first_places n))
+    → ((i j : ℕ) → i < j → j < n → All (λ l. All (R l) (g j)) (g i)) → AllPairs R (flat_map g (first_indices n))
 pairs_of_places R g zero own across = λ i j d less inside. absurd (omega arith)
 pairs_of_places R g (suc n) own across =
     let earlier = pairs_of_places R g n (λ i inside. own i (omega arith)) (λ i j less inside. across i j less (omega arith)) in
     let before : Line → Type 0 = λ l. All (R l) (g n) in
-    let each = all_of_each before g (first_places n) (all_places (λ i. All before (g i)) n (λ i inside. across i n inside (omega arith))) in
-    subst (λ m. AllPairs R (flat_map g (first_places m))) (add-one n)
-    (subst (AllPairs R) (sym (places_more g n)) (pairs-append R (flat_map g (first_places n)) (g n) earlier (own n (omega arith)) each))
+    let each = all_of_each before g (first_indices n) (all_places (λ i. All before (g i)) n (λ i inside. across i n inside (omega arith))) in
+    subst (λ m. AllPairs R (flat_map g (first_indices m))) (add-one n)
+    (subst (AllPairs R) (sym (places_more g n)) (pairs-append R (flat_map g (first_indices n)) (g n) earlier (own n (omega arith)) each))
 
 billed_some : (l : Line) → is_billed l ≡ true → l.cents.0 ≢ pos 0
 billed_some l e none = absurd (true≢false (sym e ∙ ap (λ z. not (int_eq z (pos 0))) none))
@@ -93,14 +93,14 @@ module _ (run place : ℕ) (new earlier : IntervalAmounts) where
       let last : Line = balance_change run place new earlier in
       let before_last : Line → Type 0 = λ l. All (InTurn l) (last ∷ []) in
       let each =
-      all_of_each before_last g (first_places n)
+      all_of_each before_last g (first_indices n)
       (all_places (λ i. All before_last (g i)) n
       (λ i inside.
       party_all before_last run place new earlier i (slice_index ids i)
       (λ code z.
       let own : Line = line run place (slice_index ids i) code z in
       All-cons (InTurn own) last [] (apart_in run place (slice_index ids i) 0 code Cc6476 z (new.balance.0 -ℤ earlier.balance.0) (apart.not_0 i inside)) (All-nil (InTurn own))))) in
-      pairs-append InTurn (flat_map g (first_places n)) (last ∷ [])
+      pairs-append InTurn (flat_map g (first_indices n)) (last ∷ [])
       (pairs_of_places InTurn g n (λ i inside. party_in_turn i (slice_index ids i)) across) (λ i j d less inside. absurd (omega arith)) each
 
 module _ (runs : ℕ) (lines : List Line) (ids : List ℕ) (a : HourAmounts) where
@@ -111,25 +111,25 @@ module _ (runs : ℕ) (lines : List Line) (ids : List ℕ) (a : HourAmounts) whe
   new = new_lines (runs + 1) lines ids a
 
   abbrev all : List Line
-  all = changes (runs + 1) (at_place a) earlier ids hour_length
+  all = changes (runs + 1) (at_index a) earlier ids hour_length
 
   -- the new lines stand in turn
   pub new_in_turn : Apart ids → AllPairs InTurn new
   unfolding changes
   new_in_turn apart =
       let run : ℕ = runs + 1 in
-      let g : ℕ → List Line = λ place. interval_changes run place (at_place a place) (earlier place) ids in
+      let g : ℕ → List Line = λ place. interval_changes run place (at_index a place) (earlier place) ids in
       let later : (i j : ℕ) → i < j → (account other : ℕ) (code c : ChargeCode) (z y : ℤ) → InTurn (line run i account code z) (line run j other c y) =
       λ i j less account other code c z y. record { runs = le_refl run; intervals = λ e. omega arith; codes = λ e same. absurd (omega arith) } in
       let across : (i j : ℕ) → i < j → j < hour_length → All (λ l. All (InTurn l) (g j)) (g i) =
       λ i j less inside.
       let behind : (account : ℕ) (code : ChargeCode) (z : ℤ) → All (InTurn (line run i account code z)) (g j) =
       λ account code z.
-      interval_all (InTurn (line run i account code z)) run j (at_place a j) (earlier j) ids
+      interval_all (InTurn (line run i account code z)) run j (at_index a j) (earlier j) ids
       (λ q c y lt. later i j less account (slice_index ids q) code c z y) (λ y. later i j less account 0 code Cc6476 z y) in
-      interval_all (λ l. All (InTurn l) (g j)) run i (at_place a i) (earlier i) ids (λ p code z lt. behind (slice_index ids p) code z) (λ z. behind 0 Cc6476 z) in
+      interval_all (λ l. All (InTurn l) (g j)) run i (at_index a i) (earlier i) ids (λ p code z lt. behind (slice_index ids p) code z) (λ z. behind 0 Cc6476 z) in
       AllPairs-filter InTurn is_billed all
-      (pairs_of_places InTurn g hour_length (λ place inside. interval_in_turn run place (at_place a place) (earlier place) ids apart) across)
+      (pairs_of_places InTurn g hour_length (λ place inside. interval_in_turn run place (at_index a place) (earlier place) ids apart) across)
 
   -- and each is as it must be
   pub new_each : Apart ids → All (IsLine (runs + 1)) new
@@ -137,7 +137,7 @@ module _ (runs : ℕ) (lines : List Line) (ids : List ℕ) (a : HourAmounts) whe
       let Shape : Line → Type 0 = λ l. (l.run ≡ runs + 1) × (1 ≤ l.interval) × (l.interval ≤ hour_length) × (l.account ≡ 0 → l.code ≡ Cc6476) in
       let shaped : All Shape new =
       All-filter is_billed Shape all
-      (changes_all Shape (runs + 1) (at_place a) earlier ids hour_length
+      (changes_all Shape (runs + 1) (at_index a) earlier ids hour_length
       (λ place i code z inside within. (refl, omega arith, omega arith, λ e. absurd (apart.not_0 i within e)))
       (λ place z inside. (refl, omega arith, omega arith, λ e. refl))) in
       let billing : All (λ l. is_billed l ≡ true) new = filter_passes is_billed all in

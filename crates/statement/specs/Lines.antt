@@ -12,8 +12,8 @@ use Rattle.charges.specs.declared.code.ChargeCode.{ChargeCode}
 use Rattle.charges.specs.declared.code.ChargeCode.TheVariants.{Cc6470, Cc6474, Cc6475, Cc6476, Cc6477}
 use Rattle.charges.specs.Amounts.{no_cents}
 use Rattle.charges.specs.Codes.{all_codes, charge_code_number, column_under}
-use Rattle.charges.specs.Faults.{first_places}
-use Rattle.charges.specs.Charged.{at_place}
+use Rattle.charges.specs.Faults.{first_indices}
+use Rattle.charges.specs.Charged.{at_index}
 use Rattle.statement.specs.declared.line.Line.{Line}
 
 abbrev pub same_code : ChargeCode → ChargeCode → Bool
@@ -78,7 +78,7 @@ party_changes run place new earlier i id =
 
 -- for the parties at the first so many places;
 unfoldable pub parties_changes : ℕ → ℕ → IntervalAmounts → IntervalAmounts → List ℕ → ℕ → List Line
-parties_changes run place new earlier ids n = flat_map (λ i. party_changes run place new earlier i (slice_index ids i)) (first_places n)
+parties_changes run place new earlier ids n = flat_map (λ i. party_changes run place new earlier i (slice_index ids i)) (first_indices n)
 
 -- for account 0;
 abbrev pub balance_change : ℕ → ℕ → IntervalAmounts → IntervalAmounts → Line
@@ -90,7 +90,7 @@ interval_changes run place new earlier ids = parties_changes run place new earli
 
 -- and that in the first so many intervals.
 unfoldable pub changes : ℕ → (ℕ → IntervalAmounts) → (ℕ → IntervalAmounts) → List ℕ → ℕ → List Line
-changes run new earlier ids n = flat_map (λ place. interval_changes run place (new place) (earlier place) ids) (first_places n)
+changes run new earlier ids n = flat_map (λ place. interval_changes run place (new place) (earlier place) ids) (first_indices n)
 
 -- a change of 0 is no line
 abbrev pub is_billed : Line → Bool
@@ -98,4 +98,4 @@ is_billed l = not (int_eq l.cents.0 (pos 0))
 
 -- the lines that a run adds to earlier ones
 abbrev pub new_lines : ℕ → List Line → List ℕ → HourAmounts → List Line
-new_lines run lines ids a = filter is_billed (changes run (at_place a) (come_to lines ids) ids hour_length)
+new_lines run lines ids a = filter is_billed (changes run (at_index a) (come_to lines ids) ids hour_length)

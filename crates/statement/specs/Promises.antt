@@ -4,7 +4,7 @@ use Rattle.std.specs.List.{All, AllPairs}
 use Rattle.sharing.specs.Laws.{total}
 use Rattle.tables.specs.declared.refusal.Refusal.{Refusal}
 use Rattle.deemed.specs.Ranges.{hour_length}
-use Rattle.deemed.specs.Deemed.{NearPart}
+use Rattle.deemed.specs.Pools.{NearPart}
 use Rattle.rows.specs.Kinds.{is_ciso}
 use Rattle.formulas.specs.Surcharge.{area_pool}
 use Rattle.records.specs.Hours.{party_of}

@@ -6,10 +6,10 @@ use Rattle.tables.specs.declared.refusal.Reason.{Reason}
 use Rattle.tables.specs.declared.refusal.Reason.TheVariants.{Full, LinesFull}
 use Rattle.tables.specs.declared.refusal.Part.TheVariants.{Statement as InStatement}
 use Rattle.tables.specs.declared.refusal.Refusal.{Refusal}
-use Rattle.tables.specs.Refusals.{Fit, ◌when◌, ◌unless◌, first_fit, refused_as, left}
+use Rattle.tables.specs.Refusals.{Fit, ◌when◌, ◌unless◌, first_fit, reason_as, state_after}
 use Rattle.tables.specs.Tables.{has_room_for, with_rows}
 use Rattle.records.specs.declared.call.Call.{Call}
-use Rattle.records.specs.declared.hour.Hour.{Hour}
+use Rattle.records.specs.View.{Hour}
 use Rattle.records.specs.Hours as hours
 use Rattle.records.specs.Hours.{party_id}
 use Rattle.records.specs.Calls.{at, reasons, made_by}
@@ -26,7 +26,7 @@ use Rattle.statement.specs.Lines.{new_lines}
 abbrev pub opened : ℕ → ℕ → ℕ → ℕ → Statement
 opened areas parties resources lines = record {
   records = hours.opened areas parties resources;
-  lines = tables.opened (min lines most_lines);
+  lines = tables.new_table (min lines most_lines);
   runs = 0;
   settled = false;
 }
@@ -37,7 +37,7 @@ with_records records b = record b { records = records; settled = false }
 
 -- after an entering or posting call: with what it makes of the records where it is accepted, and else as it was
 abbrev pub taken : Call → Statement → Statement
-taken call b = left (first_fit (reasons call b.records)) (with_records (made_by call b.records) b) b
+taken call b = state_after (first_fit (reasons call b.records)) (with_records (made_by call b.records) b) b
 
 -- the parties' ids, in the order entered
 abbrev pub ids : Statement → List ℕ
@@ -68,7 +68,7 @@ refusal reason = record { reason = reason; part = InStatement; place = at (pos 0
 abbrev pub reasons_before_work : (ℤ → List ℕ → List ℤ) → Statement → List (Fit Refusal)
 reasons_before_work shares b =
     refusal Full when (b.runs == most_runs)
-    ∷ map (refused_as refusal_of) (hour_faults shares b.records.areas.rows b.records.parties.rows b.records.resources.rows)
+    ∷ map (reason_as refusal_of) (hour_faults shares b.records.areas.rows b.records.parties.rows b.records.resources.rows)
 
 -- why a settle to amounts is refused, first fit first: or else there is no room for its lines
 abbrev pub settle_reasons : (ℤ → List ℕ → List ℤ) → HourAmounts → Statement → List (Fit Refusal)
@@ -85,4 +85,4 @@ pub record Settled (shares : ℤ → List ℕ → List ℤ) (before after : Stat
   -- they are what the hour comes to by the rule, where it can be worked out
   pub charged : first_fit (reasons_before_work shares before) ≡ None → HourCharged shares before.records amounts
   pub answer : r ≡ settle_answer (first_fit (settle_reasons shares amounts before)) amounts before
-  pub statement : after ≡ left (first_fit (settle_reasons shares amounts before)) (with_run shares amounts before) before
+  pub statement : after ≡ state_after (first_fit (settle_reasons shares amounts before)) (with_run shares amounts before) before

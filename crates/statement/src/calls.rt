@@ -7,12 +7,15 @@ ghost use Rattle.statement.specs.Statements.{taken};
 ghost use Rattle.records.specs.declared.call.Call.TheVariants.{EnterArea, EnterParty, EnterResource, PostEnergy, PostTag, PostElection, PostTest, PostTransfer, PostDemand, PostGiven};
 
 use super::book::Book;
+use deemed::Units;
 use records::Call;
-use rows::{AreaKind, ElectionPost, EnergyPost, ResourceKind, TagPost, TestPost, TransferPost};
+use rows::{
+    AreaKind, Cents, ElectionPost, EnergyPost, ResourceKind, TagPost, TestPost, TransferPost,
+};
 use tables::Refusal;
 
 impl Book {
-    // Enters an area of kind `C` or `W`.
+    /// Enters an area of kind `C` or `W`.
     pub fn enter_area(&mut self, id: i64, kind: &[u8]) -> Result<(), Refusal>
         ensures answer { result ≡ answer_to (EnterArea id (area_kind kind.now)) self.old.records }
         ensures statement { self.new ≡ taken (EnterArea id (area_kind kind.now)) self.old }
@@ -24,7 +27,7 @@ impl Book {
         })
     }
 
-    // Enters a party of an area.
+    /// Enters a party of an area.
     pub fn enter_party(&mut self, id: i64, area: i64) -> Result<(), Refusal>
         ensures answer { result ≡ answer_to (EnterParty id area) self.old.records }
         ensures statement { self.new ≡ taken (EnterParty id area) self.old }
@@ -33,7 +36,7 @@ impl Book {
         self.take(Call::EnterParty { id, area })
     }
 
-    // Enters a resource of kind `P`, `S` or `D`.
+    /// Enters a resource of kind `P`, `S` or `D`.
     pub fn enter_resource(
         &mut self,
         id: i64,
@@ -55,7 +58,7 @@ impl Book {
         })
     }
 
-    // Posts the prices and energies of a resource in an interval.
+    /// Posts the prices and energies of a resource in an interval.
     pub fn post_energy(&mut self, id: i64, interval: i64, post: EnergyPost) -> Result<(), Refusal>
         ensures answer { result ≡ answer_to (PostEnergy id interval post) self.old.records }
         ensures statement { self.new ≡ taken (PostEnergy id interval post) self.old }
@@ -64,7 +67,7 @@ impl Book {
         self.take(Call::PostEnergy { id, interval, post })
     }
 
-    // Posts the tag of a tie in an interval.
+    /// Posts the tag of a tie in an interval.
     pub fn post_tag(&mut self, id: i64, interval: i64, post: TagPost) -> Result<(), Refusal>
         ensures answer { result ≡ answer_to (PostTag id interval post) self.old.records }
         ensures statement { self.new ≡ taken (PostTag id interval post) self.old }
@@ -73,7 +76,7 @@ impl Book {
         self.take(Call::PostTag { id, interval, post })
     }
 
-    // Posts the election of an area.
+    /// Posts the election of an area.
     pub fn post_election(&mut self, id: i64, post: ElectionPost) -> Result<(), Refusal>
         ensures answer { result ≡ answer_to (PostElection id post) self.old.records }
         ensures statement { self.new ≡ taken (PostElection id post) self.old }
@@ -82,7 +85,7 @@ impl Book {
         self.take(Call::PostElection { id, post })
     }
 
-    // Posts the sufficiency test of an area in a quarter.
+    /// Posts the sufficiency test of an area in a quarter.
     pub fn post_test(&mut self, id: i64, quarter: i64, post: TestPost) -> Result<(), Refusal>
         ensures answer { result ≡ answer_to (PostTest id quarter post) self.old.records }
         ensures statement { self.new ≡ taken (PostTest id quarter post) self.old }
@@ -91,7 +94,7 @@ impl Book {
         self.take(Call::PostTest { id, quarter, post })
     }
 
-    // Posts the transfers of an area in an interval.
+    /// Posts the transfers of an area in an interval.
     pub fn post_transfer(
         &mut self,
         id: i64,
@@ -105,8 +108,8 @@ impl Book {
         self.take(Call::PostTransfer { id, interval, post })
     }
 
-    // Posts the demand of a party of the CISO area in an interval.
-    pub fn post_demand(&mut self, id: i64, interval: i64, units: i64) -> Result<(), Refusal>
+    /// Posts the demand of a party of the CISO area in an interval.
+    pub fn post_demand(&mut self, id: i64, interval: i64, units: Units) -> Result<(), Refusal>
         ensures answer { result ≡ answer_to (PostDemand id interval units) self.old.records }
         ensures statement { self.new ≡ taken (PostDemand id interval units) self.old }
         ensures stands { IfOk result (λ _. Stands (PostDemand id interval units) self.new.records) }
@@ -118,13 +121,13 @@ impl Book {
         })
     }
 
-    // Posts the money that is given for a party of the CISO area in an interval, under code 6470, 6474 or 6475.
+    /// Posts the money that is given for a party of the CISO area in an interval, under code 6470, 6474 or 6475.
     pub fn post_given(
         &mut self,
         id: i64,
         interval: i64,
         code: i64,
-        cents: i64,
+        cents: Cents,
     ) -> Result<(), Refusal>
         ensures answer { result ≡ answer_to (PostGiven id interval code cents) self.old.records }
         ensures statement { self.new ≡ taken (PostGiven id interval code cents) self.old }

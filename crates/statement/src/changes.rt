@@ -31,7 +31,7 @@ fn change(amount: Cents, billed: Cents) -> Cents
     requires billed { unsigned_abs billed.0 ≤ most_amount }
     ensures { result.0 ≡ amount.0 -ℤ billed.0 }
 {
-    Cents(amount.0 - billed.0)
+    amount - billed
 }
 
 // Adds a line, where it bills anything.
@@ -58,7 +58,7 @@ fn add_party(
     requires place { party.place < most_parties }
     requires amounts { Small amounts.now }
     requires totals { Small totals.now }
-    ensures lines { lines.new.items ≡ lines.old.items ++ filter is_billed (party_changes run interval.place amounts.now totals.now party.place party.id) }
+    ensures lines { lines.new.items ≡ lines.old.items ++ filter is_billed (party_changes run interval.index amounts.now totals.now party.place party.id) }
     ensures few { length lines.new.items ≤ length lines.old.items + 5 }
 {
     for code in ChargeCode::ALL {
@@ -66,7 +66,7 @@ fn add_party(
         let billed = totals.column(code)[party.place];
         let line = Line {
             run,
-            interval: interval.place as u8 + 1,
+            interval: interval.index as u8 + 1,
             account: party.id,
             code,
             cents: change(amount, billed),
@@ -88,7 +88,7 @@ fn add_interval(
     requires few { length parties.now ≤ most_parties }
     requires amounts { Small amounts.now }
     requires totals { Small totals.now }
-    ensures lines { lines.new.items ≡ lines.old.items ++ filter is_billed (interval_changes run interval.place amounts.now totals.now (map party_id parties.now)) }
+    ensures lines { lines.new.items ≡ lines.old.items ++ filter is_billed (interval_changes run interval.index amounts.now totals.now (map party_id parties.now)) }
     ensures few { length lines.new.items ≤ length lines.old.items + 321 }
 {
     for (place, party) in parties.iter().enumerate() {
@@ -100,7 +100,7 @@ fn add_interval(
     }
     let line = Line {
         run,
-        interval: interval.place as u8 + 1,
+        interval: interval.index as u8 + 1,
         account: 0,
         code: ChargeCode::Cc6476,
         cents: change(amounts.balance, totals.balance),
@@ -121,14 +121,14 @@ pub(crate) fn changes(
     ensures { result.items ≡ filter is_billed (changes run (at amounts.now) (at totals.now) (map party_id parties.now) hour_length) }
 {
     let mut lines = ArrayVec::new();
-    for place in 0..INTERVALS {
+    for index in 0..INTERVALS {
         add_interval(
             &mut lines,
             run,
-            Slot { place },
+            Slot { index },
             parties,
-            &amounts[place],
-            &totals[place],
+            &amounts[index],
+            &totals[index],
         );
     }
     lines

@@ -5,13 +5,13 @@ ghost use Rattle.charges.specs.declared.code.ChargeCode.TheVariants.{Cc6470};
 use charges::ChargeCode;
 use rows::Cents;
 
-// What a run bills an account under a code in an interval.
+/// What a run bills an account under a code in an interval.
 #[derive(Clone, Copy, PartialEq, Eq, Debug)]
 pub struct Line {
     pub run: u16,
-    // 1 to 12
+    /// 1 to 12
     pub interval: u8,
-    // the id of a party, or 0
+    /// the id of a party, or 0
     pub account: u16,
     pub code: ChargeCode,
     pub cents: Cents,

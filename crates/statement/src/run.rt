@@ -1,6 +1,6 @@
 // The runs of a book.
 
-// What a settle tells: the number of its run, from 1, and how many lines it has added.
+/// What a settle tells: the number of its run, from 1, and how many lines it has added.
 #[derive(Clone, Copy, PartialEq, Eq, Debug)]
 pub struct Run {
     pub number: u16,

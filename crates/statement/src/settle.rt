@@ -10,8 +10,8 @@ use sharing::SharingRule;
 use tables::Refusal;
 
 impl Book {
-    // Works the hour out by a rule, with new deemed energies, and bills each account what its new amount differs from what it has
-    // been billed. Refused, nothing changes.
+    /// Works the hour out by a rule, with new deemed energies, and bills each account what its new amount differs from what it has
+    /// been billed. Refused, nothing changes.
     pub fn settle<R: SharingRule>(&mut self, rule: &R) -> Result<Run, Refusal>
         ensures settled { Settled (R.SharingRule.shares rule.now) self.old self.new result }
         ensures history { History self.new }

@@ -3,6 +3,7 @@ ghost use Rattle.std.specs.Prelude.{◌≡◌, ◌<◌, IfOk, Result};
 ghost use Rattle.tables.specs.declared.refusal.Refusal.{Refusal};
 ghost use Rattle.records.specs.Calls.{answer_to};
 ghost use Rattle.records.specs.Standing.{Stands};
+ghost use Rattle.records.specs.Kept.{KeepsRecords};
 ghost use Rattle.records.specs.Sound.{Step, Grows};
 ghost use Rattle.statement.specs.Ranges.{most_runs};
 ghost use Rattle.statement.specs.Statements.{opened, taken, refusal};
@@ -16,9 +17,10 @@ use sharing::SharingRule;
 use std::alloc::{AllocError, Global};
 use tables::{Part, Place, Reason, Refusal, Table};
 
-// The full numbers of a book.
+/// The full numbers of a book.
 pub const MOST_LINES: usize = 4_096;
 
+/// The most runs of a book.
 pub const MOST_RUNS: u16 = 65_535;
 
 #[derive(Drop)]
@@ -66,6 +68,7 @@ impl Statement {
         ensures statement { self.new ≡ taken call self.old }
         ensures stands { IfOk result (λ _. Stands call self.new.records) }
         ensures step { IfOk result (λ _. Step self.old.records self.new.records) }
+        ensures kept { KeepsRecords call self.old.records self.new.records }
         ensures grows { Grows self.old.records self.new.records }
     {
         self.records.take(call)?;

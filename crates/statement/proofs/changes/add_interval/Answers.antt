@@ -14,7 +14,7 @@ loop-place-init c = record { lines = sym (append-nil c.args.lines.now.items); fe
 
 pub loop-place-preserved : goal.loop-place-preserved
 loop-place-preserved c =
-    let interval : ℕ = c.args.interval.place in
+    let interval : ℕ = c.args.interval.index in
     let new : IntervalAmounts = c.args.amounts.now in
     let earlier : IntervalAmounts = c.args.totals.now in
     let parties : List Party = c.args.parties.now in
@@ -32,7 +32,7 @@ loop-place-preserved c =
 
 pub returns-clause-lines : goal.returns-clause-lines
 returns-clause-lines c =
-    let interval : ℕ = c.args.interval.place in
+    let interval : ℕ = c.args.interval.index in
     let new : IntervalAmounts = c.args.amounts.now in
     let earlier : IntervalAmounts = c.args.totals.now in
     let ids : List ℕ = map party_id c.args.parties.now in

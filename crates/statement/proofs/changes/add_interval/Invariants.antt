@@ -5,6 +5,6 @@ use Rattle.statement.proofs.changes.add_interval.Given as goal
 
 abbrev pub invariant-loop-place : goal.invariant-loop-place
 invariant-loop-place l = record {
-  lines : l.lines.items ≡ l.initial.lines.items ++ filter is_billed (parties_changes l.run l.interval.place l.amounts l.totals (map party_id l.parties) l.place);
+  lines : l.lines.items ≡ l.initial.lines.items ++ filter is_billed (parties_changes l.run l.interval.index l.amounts l.totals (map party_id l.parties) l.place);
   few : length l.lines.items ≤ length l.initial.lines.items + 5 * l.place;
 }

@@ -7,7 +7,7 @@ use Rattle.statement.proofs.changes.add_party.Goals as goal
 
 pub loop-code-preserved : goal.loop-code-preserved
 loop-code-preserved c =
-    let place : ℕ = c.args.interval.place in
+    let place : ℕ = c.args.interval.index in
     let new : IntervalAmounts = c.args.amounts.now in
     let earlier : IntervalAmounts = c.args.totals.now in
     let before : List Line = c.args.lines.now.items in
@@ -22,5 +22,5 @@ loop-code-preserved c =
 
 pub returns-clause-lines : goal.returns-clause-lines
 returns-clause-lines c =
-    let all = codes_added c.args.run c.args.interval.place c.args.amounts.now c.args.totals.now c.args.party.place c.args.party.id c.loop-code.code-index c.loop-code-test.false in
+    let all = codes_added c.args.run c.args.interval.index c.args.amounts.now c.args.totals.now c.args.party.place c.args.party.id c.loop-code.code-index c.loop-code-test.false in
     c.loop-code.invariant.lines ∙ ap (λ l. c.args.lines.now.items ++ filter is_billed l) all

@@ -1,4 +1,5 @@
 use Rattle.statement.proofs.Keeping.{kept_opened}
+use Rattle.statement.proofs.LastPosts.{histories_keep_records}
 use Rattle.statement.proofs.Seen.{promises_kept}
 use Rattle.statement.proofs.book.Book.open.Goals as goal
 
@@ -12,3 +13,6 @@ returns-clause-history c = (invariant_of-result c).history
 
 pub returns-clause-promises : goal.returns-clause-promises
 returns-clause-promises c = promises_kept (invariant_of-result c)
+
+pub returns-clause-kept : goal.returns-clause-kept
+returns-clause-kept c = histories_keep_records
