@@ -1,6 +1,6 @@
 -- The blocks of an input, and the names that their first lines may have. Assumes nothing.
 use Rattle.std.specs.Prelude.{ℕ, List, [], ◌∷◌, Option, codes, get_or, bytes_eq, position}
-use Rattle.rows.specs.Named.{named}
+use Rattle.rows.specs.Named.{kind_by_word}
 use Rattle.words.specs.Texts.{words_of}
 use Rattle.blocks.specs.declared.block.Block.{Block}
 use Rattle.blocks.specs.declared.block.Block.TheVariants.{Area, Party, Resource, Energy, Tag, Election, Test, Transfer, Demand, Given, Settle}
@@ -39,7 +39,7 @@ name_at b place = get_or (block_names b) place []
 
 -- the block that a word names
 abbrev pub block_of : List ℕ → Option Block
-block_of word = named (λ b. name_at b 0) blocks word
+block_of word = kind_by_word (λ b. name_at b 0) blocks word
 
 -- the place of a name among some
 abbrev pub place_among : List (List ℕ) → List ℕ → Option ℕ

@@ -1,7 +1,8 @@
-// The blocks of an input, and the names that their first lines may have.
-ghost use Rattle.std.specs.Prelude.{◌≡◌, Some, bytes_eq};
+//! The blocks of an input, and the names that their first lines may have.
+ghost use Rattle.std.specs.Prelude.{◌≡◌, Some};
 ghost use Rattle.blocks.specs.Names.{block_names, block_of, blocks, name_at, names_text, place_among, word_name};
 
+use tables::same_word;
 use words::Words;
 
 // The most names that a block has.
@@ -22,14 +23,8 @@ pub enum Block {
     Settle,
 }
 
-// Whether a word is a name.
-fn same(word: &[u8], name: &[u8]) -> bool
-    ensures { result ≡ bytes_eq name.now word.now }
-{
-    word == name
-}
-
 impl Block {
+    /// All blocks.
     pub const ALL: [Block; 11] = [
         Block::Area,
         Block::Party,
@@ -44,7 +39,7 @@ impl Block {
         Block::Settle,
     ];
 
-    // The names of its columns, its own first: what the block is known by, and no other.
+    /// The names of its columns, its own first: what the block is known by, and no other.
     pub fn names(self) -> &'static [u8]
         ensures names { result.now ≡ names_text self }
         ensures own { block_of (name_at self 0) ≡ Some self }
@@ -84,7 +79,7 @@ impl Block {
         Words::of(self.names()).next().unwrap_or(b"")
     }
 
-    // The block that a word names.
+    /// The block that a word names.
     pub fn named(word: &[u8]) -> Option<Block>
         ensures block { result ≡ block_of word.now }
         ensures all { Block.ALL ≡ blocks }
@@ -92,14 +87,14 @@ impl Block {
         Block::ALL
             .iter()
             .copied()
-            .find(|block| same(word, block.name()))
+            .find(|block| same_word(word, block.name()))
     }
 
-    // The place of a name among its own.
+    /// The place of a name among its own.
     #[tactic(auto, using(crate::proofs::Columns::few_names))]
     pub fn place(self, name: &[u8]) -> Option<usize>
         ensures { result ≡ place_among (block_names self) name.now }
     {
-        Words::of(self.names()).position(|n| same(name, n))
+        Words::of(self.names()).position(|n| same_word(name, n))
     }
 }

@@ -11,10 +11,10 @@ use arrayvec::ArrayVec;
 use std::marker::Model;
 use words::Words;
 
-// The most bytes of a line that is read.
+/// The most bytes of a line that is read.
 pub const LONGEST_LINE: usize = 200;
 
-// Contracts see the block and the names. A column is kept as the place of its name among those of the block.
+/// Contracts see the block and the names. A column is kept as the place of its name among those of the block.
 #[derive(Drop)]
 pub struct Heading {
     block: Block,
@@ -35,7 +35,7 @@ impl Model for Heading {
 }
 
 impl Heading {
-    // What a line of names heads.
+    /// What a line of names heads.
     pub fn of(line: &[u8]) -> Option<Heading>
         ensures { result ≡ heading_of line.now }
     {
@@ -65,7 +65,7 @@ impl Heading {
         words.next().is_none().then_some(values)
     }
 
-    // What a line of values orders.
+    /// What a line of values orders.
     pub fn order(&self, line: &[u8]) -> Option<Order>
         ensures order { result ≡ order_in self.now line.now }
         ensures limit { LONGEST_LINE ≡ longest_line }

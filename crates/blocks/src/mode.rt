@@ -6,7 +6,7 @@ use super::heading::Heading;
 use super::order::Order;
 use tables::{Part, Place, Reason, Refusal};
 
-// Between blocks, in a block that is skipped since its names were refused, or in one with its names.
+/// Between blocks, in a block that is skipped since its names were refused, or in one with its names.
 #[derive(Drop)]
 pub enum Mode {
     Between,
@@ -25,7 +25,7 @@ fn malformed() -> Refusal
 }
 
 impl Mode {
-    // Reads a line, without its line feed: what it orders, if anything, or why it is refused.
+    /// Reads a line, without its line feed: what it orders, if anything, or why it is refused.
     pub fn read(&mut self, line: &[u8]) -> Result<Option<Order>, Refusal>
         ensures { (self.new, result) ≡ read_line line.now self.old }
     {

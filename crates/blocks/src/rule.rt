@@ -9,7 +9,7 @@ pub enum Rule {
 }
 
 impl Rule {
-    // The rule that a word names.
+    /// The rule that a word names.
     pub fn named(word: &[u8]) -> Option<Rule>
         ensures { result ≡ rule_of word.now }
     {

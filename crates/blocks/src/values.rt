@@ -10,9 +10,11 @@ ghost use Rattle.blocks.specs.Working.{Held, Put, most_names};
 use super::block::{Block, MOST_NAMES};
 use super::order::Order;
 use super::rule::Rule;
+use deemed::{Kilowatts, TelemetrySteps, Units};
 use records::Call;
 use rows::{
-    AreaKind, DispatchWord, ElectionPost, EnergyPost, ResourceKind, TagPost, TestPost, TransferPost,
+    AreaKind, Cents, DispatchWord, ElectionPost, EnergyPost, PriceSteps, ResourceKind, TagPost,
+    TestPost, TransferPost,
 };
 use words::{is_word, number};
 
@@ -72,16 +74,16 @@ impl<'a> Values<'a> {
             _,
         ] = self.numbers;
         let post = EnergyPost {
-            lmp,
-            mss,
-            resprice,
-            edprice,
-            iie,
-            oa,
-            mssiie,
-            res,
-            above,
-            edqty,
+            lmp: PriceSteps(lmp),
+            mss: PriceSteps(mss),
+            resprice: PriceSteps(resprice),
+            edprice: PriceSteps(edprice),
+            iie: Units(iie),
+            oa: Units(oa),
+            mssiie: Units(mssiie),
+            res: Units(res),
+            above: Units(above),
+            edqty: Units(edqty),
             resflag,
             ed: DispatchWord::of(self.word),
         };
@@ -93,8 +95,8 @@ impl<'a> Values<'a> {
     {
         let [id, interval, kw, telemetry, curtailed, ..] = self.numbers;
         let post = TagPost {
-            kw,
-            telemetry,
+            kw: Kilowatts(kw),
+            telemetry: TelemetrySteps(telemetry),
             curtailed,
         };
         Call::PostTag { id, interval, post }
@@ -106,9 +108,9 @@ impl<'a> Values<'a> {
         let [id, opted_in, cap, up, nopay, ..] = self.numbers;
         let post = ElectionPost {
             opted_in,
-            cap,
-            up,
-            nopay,
+            cap: PriceSteps(cap),
+            up: Kilowatts(up),
+            nopay: Kilowatts(nopay),
         };
         Call::PostElection { id, post }
     }
@@ -118,9 +120,9 @@ impl<'a> Values<'a> {
     {
         let [id, quarter, capacity, ramp, nopay, ..] = self.numbers;
         let post = TestPost {
-            capacity,
-            ramp,
-            nopay,
+            capacity: Kilowatts(capacity),
+            ramp: Kilowatts(ramp),
+            nopay: Kilowatts(nopay),
         };
         Call::PostTest { id, quarter, post }
     }
@@ -130,10 +132,10 @@ impl<'a> Values<'a> {
     {
         let [id, interval, to, base_to, from, base_from, ..] = self.numbers;
         let post = TransferPost {
-            to,
-            base_to,
-            from,
-            base_from,
+            to: Units(to),
+            base_to: Units(base_to),
+            from: Units(from),
+            base_from: Units(base_from),
         };
         Call::PostTransfer { id, interval, post }
     }
@@ -164,13 +166,13 @@ impl<'a> Values<'a> {
             Block::Demand => Call::PostDemand {
                 id,
                 interval: second,
-                units: third,
+                units: Units(third),
             },
             Block::Given => Call::PostGiven {
                 id,
                 interval: second,
                 code: third,
-                cents: fourth,
+                cents: Cents(fourth),
             },
             Block::Settle => return self.word.and_then(Rule::named).map(Order::Settle),
         };

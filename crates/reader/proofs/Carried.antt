@@ -6,7 +6,7 @@ use Rattle.sharing.specs.RemainderSizes.{largest_remainder_lawful}
 use Rattle.sharing.specs.RunningSizes.{running_lawful}
 use Rattle.tables.specs.declared.refusal.Refusal.{Refusal}
 use Rattle.tables.specs.declared.refusal.Reason.{Reason}
-use Rattle.tables.specs.Refusals.{first_fit, answered, left}
+use Rattle.tables.specs.Refusals.{first_fit, answer_by, state_after}
 use Rattle.records.specs.Calls.{reasons, place_of, refusal, made_by}
 use Rattle.charges.specs.declared.amounts.HourAmounts.{HourAmounts}
 use Rattle.statement.specs.declared.statement.Statement.{Statement}
@@ -46,12 +46,12 @@ history_of_lines (line ∷ lines) before after outcomes (next, outcome, others, 
 
 -- refused, nothing changes
 call_refused : (o : Option Reason) (f : Reason → Refusal) (made before : Statement) (r : Refusal)
-    → Some r ≡ refusal_in (answered (option_map f o)) → left o made before ≡ before
+    → Some r ≡ refusal_in (answer_by (option_map f o)) → state_after o made before ≡ before
 call_refused None f made before r refused = absurd (cc)
 call_refused (Some reason) f made before r refused = refl
 
 settle_refused : (o : Option Refusal) (a : HourAmounts) (made before : Statement) (r : Refusal)
-    → Some r ≡ refusal_in (settle_answer o a before) → left o made before ≡ before
+    → Some r ≡ refusal_in (settle_answer o a before) → state_after o made before ≡ before
 settle_refused None a made before r refused = absurd (cc)
 settle_refused (Some reason) a made before r refused = refl
 

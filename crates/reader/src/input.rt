@@ -24,7 +24,7 @@ pub struct InputReader {
 }
 
 impl InputReader {
-    // At the start of an input.
+    /// At the start of an input.
     #[tactic(auto, using(crate::proofs::Leading::led_at_start))]
     pub fn new(book: Book) -> InputReader
         ensures { Led book [] result [] }
@@ -36,6 +36,7 @@ impl InputReader {
         }
     }
 
+    /// The book, as the lines that have ended have made it.
     pub fn book(&self) -> &Book
         ensures { result.now ≡ self.now.lines.book }
     {
@@ -81,7 +82,7 @@ impl InputReader {
         })
     }
 
-    // Reads on to the next line that is refused, and gives it with the bytes behind it; where there is none, reads all the bytes.
+    /// Reads on to the next line that is refused, and gives it with the bytes behind it; where there is none, reads all the bytes.
     pub fn next_refused<'a>(&mut self, bytes: &'a [u8]) -> Option<(RefusedLine, &'a [u8])>
         ensures { NextRefused bytes.now self.old self.new result }
     {
@@ -99,7 +100,7 @@ impl InputReader {
         }
     }
 
-    // Ends an input, and gives its last line, if that is refused. Another input may follow, on the same book.
+    /// Ends an input, and gives its last line, if that is refused. Another input may follow, on the same book.
     #[tactic(auto, using(crate::proofs::Leading::input_ended))]
     pub fn end(&mut self) -> Option<RefusedLine>
         ensures { Ended self.old self.new result }

@@ -7,7 +7,7 @@ use blocks::{Mode, Order};
 use statement::Book;
 use tables::Refusal;
 
-// A book, and where the lines before have left the input.
+/// A book, and where the lines before have left the input.
 #[derive(Drop)]
 pub struct LineReader {
     pub(crate) book: Book,
@@ -15,7 +15,7 @@ pub struct LineReader {
 }
 
 impl LineReader {
-    // At the start of an input.
+    /// At the start of an input.
     pub fn new(book: Book) -> LineReader
         ensures { result ≡ starting book }
     {
@@ -25,6 +25,7 @@ impl LineReader {
         }
     }
 
+    /// The book, as the lines so far have made it.
     pub fn book(&self) -> &Book
         ensures { result.now ≡ self.now.book }
     {
@@ -38,8 +39,8 @@ impl LineReader {
         self.mode = Mode::Between;
     }
 
-    // Takes a line, without its line feed: the order that it gives, if any, or why it or its order is refused. Refused, the book is
-    // as it was.
+    /// Takes a line, without its line feed: the order that it gives, if any, or why it or its order is refused. Refused, the book is
+    /// as it was.
     pub fn take_line(&mut self, line: &[u8]) -> Result<Option<Order>, Refusal>
         ensures taken { LineTaken line.now self.old self.new result }
         ensures kept { OnErr result (self.new.book ≡ self.old.book) }

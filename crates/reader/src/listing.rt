@@ -7,7 +7,7 @@ use statement::Line;
 use std::fmt;
 use std::io::{self, Write};
 
-// A line of a statement, as it is printed.
+/// A line of a statement, as it is printed.
 #[derive(Clone, Copy, PartialEq, Eq, Debug)]
 pub struct ListedLine(pub Line);
 
@@ -31,7 +31,7 @@ impl fmt::Display for ListedLine {
     }
 }
 
-// Writes a header, and a line for each line of a statement.
+/// Writes a header, and a line for each line of a statement.
 pub fn write_listing<W: Write>(lines: &[Line], out: &mut W) -> io::Result<()>
     ensures { OnOk result (Appends (W.contents out.old) (W.contents out.new) (listing_text lines.now)) }
 {

@@ -62,7 +62,7 @@ fn print_input<R: Read, W: Write>(
     Err(RunError::Input(io::Error::from(ErrorKind::TimedOut)))
 }
 
-// Reads an input on a book of the full numbers of rows, prints the lines that are refused, and then the listing.
+/// Reads an input on a book of the full numbers of rows, prints the lines that are refused, and then the listing.
 pub fn run<R: Read, W: Write>(alloc: Global, input: &mut R, out: &mut W) -> Result<(), RunError>
     ensures printed { OnOk result (Printed (R.remaining input.old) (R.remaining input.new) (W.contents out.old) (W.contents out.new)) }
     ensures failed { IfErr result (λ error. PrintedOnFailure error (R.remaining input.old) (R.remaining input.new) (W.contents out.old) (W.contents out.new)) }

@@ -4,7 +4,7 @@ use tables::Refusal;
 
 #[derive(Clone, Copy, PartialEq, Eq, Debug)]
 pub struct RefusedLine {
-    // its number in the input, from 1
+    /// its number in the input, from 1
     pub number: u64,
     pub refusal: Refusal,
 }

@@ -4,6 +4,7 @@ ghost use Rattle.words.specs.Numbers.{NumbersReadBack, most_digits, natural_of, 
 ghost use Rattle.std.specs.Option.{option_map};
 ghost use Rattle.std.specs.Prelude.{pos};
 
+/// The most digits of a number.
 pub const MOST_DIGITS: usize = 10;
 
 // The number that one to ten digits write.
@@ -22,7 +23,7 @@ fn natural(text: &[u8]) -> Option<i64>
     rest.is_empty().then_some(number)
 }
 
-// The number that a text writes: one to ten digits, after a minus or not.
+/// The number that a text writes: one to ten digits, after a minus or not.
 pub fn number(text: &[u8]) -> Option<i64>
     ensures value { result ≡ number_of text.now }
     ensures reads_back { NumbersReadBack }

@@ -14,7 +14,7 @@ fn first_place(separator: u8, text: &[u8]) -> Option<usize>
     text.iter().position(|&b| b == separator)
 }
 
-// What stands before the first separator, and what stands behind it, if there is one.
+/// What stands before the first separator, and what stands behind it, if there is one.
 pub fn cut(separator: u8, text: &[u8]) -> (&[u8], Option<&[u8]>)
     ensures { Cut separator text.now result.0.now (option_map (λ t. t.now) result.1) }
 {
@@ -24,7 +24,7 @@ pub fn cut(separator: u8, text: &[u8]) -> (&[u8], Option<&[u8]>)
     }
 }
 
-// The words of a line, one after another. Contracts see those that are still to come.
+/// The words of a line, one after another. Contracts see those that are still to come.
 #[derive(Drop)]
 pub struct Words<'a> {
     rest: Option<&'a [u8]>,
@@ -41,6 +41,7 @@ impl<'a> Model for Words<'a> {
 }
 
 impl<'a> Words<'a> {
+    /// The words of a line.
     pub fn of(line: &'a [u8]) -> Words<'a>
         ensures { result ≡ words_of line.now }
     {
@@ -68,7 +69,7 @@ fn all_alphanumeric(text: &[u8]) -> bool
     text.iter().all(|b| b.is_ascii_alphanumeric())
 }
 
-// Whether a text is a letter followed by letters and digits.
+/// Whether a text is a letter followed by letters and digits.
 pub fn is_word(text: &[u8]) -> bool
     ensures { result ≡ is_word text.now }
 {
