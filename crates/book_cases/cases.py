@@ -346,12 +346,21 @@ def few_rows():
     yield from ("open 1 1 0", "area 1 W", "party 1 1", "resource 1 1 P 0 0")
 
 
-def many_rows():
-    """More is asked of each table than it can have, and one row too many is entered. Area 9 is the C area."""
-    yield "open 17 65 1000"
+def one_row_too_many():
+    """One row more is entered than each table can have. Area 9 is the C area."""
     yield from (f"area {id} {'C' if id == 9 else 'W'}" for id in range(17, 0, -1))
     yield from (f"party {id} {18 - id if id < 17 else 9}" for id in range(1, 66))
     yield from (f"resource {65_536 - n} {17 + n % 48} {'PSD'[n % 3]} {n % 2} {n // 2 % 2}" for n in range(1, 130))
+
+
+def many_rows():
+    """More is asked of each table than it can have."""
+    yield from ("open 17 65 1000", *one_row_too_many())
+
+
+def far_too_many_rows():
+    """A million million rows are asked of each table, and as many lines: each table has its full number."""
+    yield from (f"open {' '.join(4 * [str(10**12)])}", *one_row_too_many())
 
 
 def drawn(draw):
@@ -534,7 +543,7 @@ def main():
     cases = [line for lines in rows for line in lines()] + list(drawn(random.Random(180)))
     cases += [line for lines in posts for line in lines()]
     cases += [*own_records(random.Random(181)), *drawn_posts(random.Random(184)), *charging.lines()]
-    cases = [*with_room(cases), *settling.lines()]
+    cases = [*with_room(cases), *settling.lines(), *far_too_many_rows()]
     settling.assert_documented(list(answers(settling.recalculation(), defaultdict(set))))
     with open(HERE / "stdin", "w", encoding="utf-8") as given, open(HERE / "stdout", "w", encoding="utf-8") as wanted:
         print(*cases, sep="\n", file=given)

@@ -24,7 +24,7 @@ def weight(kw, telemetry, curtailed):
 
 
 def expected(tags):
-    if any(abs(kw) > MOST_KW or telemetry > MOST_TELEMETRY for kw, telemetry, _ in tags):
+    if any(abs(kw) > MOST_KW or not 0 <= telemetry <= MOST_TELEMETRY for kw, telemetry, _ in tags):
         return ["out of range"]
     kws = [kw for kw, _, _ in tags]
     weights = [weight(*tag) for tag in tags]
@@ -79,8 +79,15 @@ def drawn(draw):
         ]
 
 
+def far_telemetry():
+    """Telemetry is any number of 64 bits: below 0 it is out of range too."""
+    yield hour((1, -1, 0))
+    yield hour((0, -(2**63), 1))
+    yield hour((1, 2**63 - 1, 0))
+
+
 def main():
-    cases = list(edges()) + list(drawn(random.Random(12)))
+    cases = [*edges(), *drawn(random.Random(12)), *far_telemetry()]
     with open(HERE / "stdin", "w") as given, open(HERE / "stdout", "w") as wanted:
         for tags in cases:
             print(*("/".join(map(str, tag)) for tag in tags), file=given)

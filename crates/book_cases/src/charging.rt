@@ -3,6 +3,7 @@ use super::WORDS;
 use super::posting::energy_post;
 use anyhow::bail;
 use charges::{ChargeCode, ChargeFault, HourAmounts, IntervalAmounts, work_out};
+use deemed::Units;
 use records::Records;
 use rows::Cents;
 use sharing::{LargestRemainder, Running};
@@ -17,7 +18,8 @@ pub(super) fn print_trial(
 ) -> anyhow::Result<()> {
     let [_trial, id, interval, .., deemed] = words;
     let post = energy_post(words)?;
-    match book.trial(id.parse()?, interval.parse()?, post, deemed.parse()?) {
+    let deemed = Units(deemed.parse()?);
+    match book.trial(id.parse()?, interval.parse()?, post, deemed) {
         Ok(products) => writeln!(out, "products {}", products.0)?,
         Err(refusal) => writeln!(out, "{refusal}")?,
     }

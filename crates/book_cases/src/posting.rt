@@ -1,7 +1,10 @@
 // Posts what a line says.
 use super::{WORDS, word_bytes};
 use anyhow::bail;
-use rows::{DispatchWord, ElectionPost, EnergyPost, TagPost, TestPost, TransferPost};
+use deemed::{Kilowatts, TelemetrySteps, Units};
+use rows::{
+    Cents, DispatchWord, ElectionPost, EnergyPost, PriceSteps, TagPost, TestPost, TransferPost,
+};
 use statement::Book;
 use tables::Refusal;
 
@@ -30,16 +33,16 @@ pub(super) fn energy_post(words: [&str; WORDS]) -> anyhow::Result<EnergyPost> {
         ..
     ] = words;
     Ok(EnergyPost {
-        lmp: lmp.parse()?,
-        mss: mss.parse()?,
-        resprice: resprice.parse()?,
-        edprice: edprice.parse()?,
-        iie: iie.parse()?,
-        oa: oa.parse()?,
-        mssiie: mssiie.parse()?,
-        res: res.parse()?,
-        above: above.parse()?,
-        edqty: edqty.parse()?,
+        lmp: PriceSteps(lmp.parse()?),
+        mss: PriceSteps(mss.parse()?),
+        resprice: PriceSteps(resprice.parse()?),
+        edprice: PriceSteps(edprice.parse()?),
+        iie: Units(iie.parse()?),
+        oa: Units(oa.parse()?),
+        mssiie: Units(mssiie.parse()?),
+        res: Units(res.parse()?),
+        above: Units(above.parse()?),
+        edqty: Units(edqty.parse()?),
         resflag: resflag.parse()?,
         ed: dispatch_word(ed),
     })
@@ -47,8 +50,8 @@ pub(super) fn energy_post(words: [&str; WORDS]) -> anyhow::Result<EnergyPost> {
 
 fn tag_post(kw: &str, telemetry: &str, curtailed: &str) -> anyhow::Result<TagPost> {
     Ok(TagPost {
-        kw: kw.parse()?,
-        telemetry: telemetry.parse()?,
+        kw: Kilowatts(kw.parse()?),
+        telemetry: TelemetrySteps(telemetry.parse()?),
         curtailed: curtailed.parse()?,
     })
 }
@@ -56,17 +59,17 @@ fn tag_post(kw: &str, telemetry: &str, curtailed: &str) -> anyhow::Result<TagPos
 fn election_post(opted_in: &str, cap: &str, up: &str, nopay: &str) -> anyhow::Result<ElectionPost> {
     Ok(ElectionPost {
         opted_in: opted_in.parse()?,
-        cap: cap.parse()?,
-        up: up.parse()?,
-        nopay: nopay.parse()?,
+        cap: PriceSteps(cap.parse()?),
+        up: Kilowatts(up.parse()?),
+        nopay: Kilowatts(nopay.parse()?),
     })
 }
 
 fn test_post(capacity: &str, ramp: &str, nopay: &str) -> anyhow::Result<TestPost> {
     Ok(TestPost {
-        capacity: capacity.parse()?,
-        ramp: ramp.parse()?,
-        nopay: nopay.parse()?,
+        capacity: Kilowatts(capacity.parse()?),
+        ramp: Kilowatts(ramp.parse()?),
+        nopay: Kilowatts(nopay.parse()?),
     })
 }
 
@@ -77,10 +80,10 @@ fn transfer_post(
     base_from: &str,
 ) -> anyhow::Result<TransferPost> {
     Ok(TransferPost {
-        to: to.parse()?,
-        base_to: base_to.parse()?,
-        from: from.parse()?,
-        base_from: base_from.parse()?,
+        to: Units(to.parse()?),
+        base_to: Units(base_to.parse()?),
+        from: Units(from.parse()?),
+        base_from: Units(base_from.parse()?),
     })
 }
 
@@ -106,14 +109,14 @@ pub(super) fn post(book: &mut Book, words: [&str; WORDS]) -> anyhow::Result<Resu
             book.post_transfer(id.parse()?, interval.parse()?, post)
         }
         ["demand", id, interval, units, ..] => {
-            book.post_demand(id.parse()?, interval.parse()?, units.parse()?)
+            book.post_demand(id.parse()?, interval.parse()?, Units(units.parse()?))
         }
         ["given", id, interval, code, cents, ..] => {
             book.post_given(
                 id.parse()?,
                 interval.parse()?,
                 code.parse()?,
-                cents.parse()?,
+                Cents(cents.parse()?),
             )
         }
         _ => bail!("no such call"),

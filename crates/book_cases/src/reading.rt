@@ -2,7 +2,9 @@
 use super::WORDS;
 use anyhow::bail;
 use deemed::Tag;
-use rows::{DeemedEnergy, Election, EnergyRecord, GivenAmount, SufficiencyTest, Transfer, Volume};
+use rows::{
+    DeemedEnergy, Election, EnergyRecord, GivenAmount, SufficiencyTest, Transfer, UnsignedEnergy,
+};
 use statement::Book;
 use std::io::{self, Write};
 use tables::Refusal;
@@ -16,7 +18,7 @@ enum Reading {
     Election(Election),
     Test(SufficiencyTest),
     Transfer(Transfer),
-    Demand(Volume),
+    Demand(UnsignedEnergy),
     Given(GivenAmount),
 }
 
@@ -90,15 +92,15 @@ fn print_tag(out: &mut impl Write, tag: Tag) -> io::Result<()> {
 fn print_election(out: &mut impl Write, election: Election) -> io::Result<()> {
     let opted_in = u8::from(election.opted_in);
     let cap = election.cap.steps.0;
-    let up = election.up.units.0;
-    let nopay = election.nopay.units.0;
+    let up = election.up.kilowatts.0;
+    let nopay = election.nopay.kilowatts.0;
     writeln!(out, "{opted_in} {cap} {up} {nopay}")
 }
 
 fn print_test(out: &mut impl Write, test: SufficiencyTest) -> io::Result<()> {
-    let capacity = test.capacity.units.0;
-    let ramp = test.ramp.units.0;
-    let nopay = test.nopay.units.0;
+    let capacity = test.capacity.kilowatts.0;
+    let ramp = test.ramp.kilowatts.0;
+    let nopay = test.nopay.kilowatts.0;
     writeln!(out, "{capacity} {ramp} {nopay}")
 }
 

@@ -2,7 +2,10 @@
 #![tactic(auto)]
 
 use anyhow::{bail, ensure};
-use deemed::{DeemedFault, INTERVALS, Tag, TelemetrySteps, TieHour, Units, static_units};
+use deemed::{
+    INTERVALS, Kilowatts, PoolFault, Tag, TelemetrySteps, TieHour, Units, pool, static_units,
+    weights,
+};
 use sharing::{LargestRemainder, Running, SharingRule};
 use std::io::{BufRead, BufReader, BufWriter, Write};
 use std::{fmt, io};
@@ -17,7 +20,7 @@ fn read(word: &str) -> anyhow::Result<Option<Tag>> {
     ) else {
         bail!("a tag has three figures");
     };
-    let kw = Units(kw.parse()?);
+    let kw = Kilowatts(kw.parse()?);
     let telemetry = TelemetrySteps(telemetry.parse()?);
     Ok(Tag::new(kw, telemetry, curtailed == "1"))
 }
@@ -40,7 +43,7 @@ fn enter(line: &str) -> anyhow::Result<Option<[Tag; INTERVALS]>> {
     Ok(None)
 }
 
-// A letter, and a figure for each interval. Each line is one call, which a type with `Display` would make longer.
+// A letter, and a figure for each interval.
 fn print_row<T: fmt::Display + Copy>(
     out: &mut impl Write,
     letter: char,
@@ -53,29 +56,30 @@ fn print_row<T: fmt::Display + Copy>(
     writeln!(out)
 }
 
-// The deemed energies under a rule, or the refusal. A letter and its rule meet only here.
+// The deemed energies under a rule, or the refusal.
 fn print_shared<R: SharingRule>(
     out: &mut impl Write,
     letter: char,
     mut hour: TieHour,
+    pool: Units,
     rule: &R,
 ) -> io::Result<()> {
-    match hour.share(rule) {
+    match hour.share(rule, pool) {
         Ok(()) => print_row(out, letter, hour.units().map(|energy| energy.0)),
-        Err(DeemedFault(fault)) => writeln!(out, "{letter} refused {}", fault.number()),
+        Err(PoolFault(fault)) => writeln!(out, "{letter} refused {}", fault.number()),
     }
 }
 
-// The layout is this program's own: a crate for what is like another's would be no plainer.
 fn print_tie(out: &mut impl Write, tags: [Tag; INTERVALS]) -> io::Result<()> {
-    let hour = TieHour::new(tags);
-    print_row(out, 'W', hour.weights())?;
-    print_shared(out, 'L', hour, &LargestRemainder)?;
-    print_shared(out, 'R', hour, &Running)?;
+    let weights = weights(tags);
+    print_row(out, 'W', weights)?;
+    let hour = TieHour::new(weights);
+    let pool = pool(tags);
+    print_shared(out, 'L', hour, pool, &LargestRemainder)?;
+    print_shared(out, 'R', hour, pool, &Running)?;
     print_row(out, 'S', static_units(tags).map(|energy| energy.0))
 }
 
-// As in the other program of cases: a crate for this loop would be no plainer.
 fn run(rt: &HostRuntime) -> anyhow::Result<()> {
     let mut out = BufWriter::new(rt.alloc(), rt.stdout())?;
     for line in BufReader::new(rt.alloc(), rt.stdin())?.lines(rt.alloc()) {

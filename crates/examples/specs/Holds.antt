@@ -1,5 +1,7 @@
 -- When a worked example holds: the definitions give what it says. Assumes nothing.
-use Rattle.std.specs.Prelude.{◌≡◌, ◌≢◌, ℕ, Bool, true, false, List, [], ◌∷◌, ◌++◌, ℤ, pos, replicate, sum}
+use Rattle.std.specs.Prelude.{◌≡◌, ℕ, Bool, true, false, List, [], ◌∷◌, ◌++◌, ℤ, pos, replicate}
+use Rattle.sharing.specs.Outcome as sharing
+use Rattle.sharing.specs.Outcome.{number_of}
 use Rattle.sharing.specs.LargestRemainder.{largest_remainder}
 use Rattle.sharing.specs.Running.{running}
 use Rattle.deemed.specs.declared.tag.Tag.{Tag}
@@ -26,16 +28,16 @@ plain = record { kind = Plain; net = false; exempt = false }
 -- a post of a price and energy, and of a dispatch
 abbrev pub energy_post : ℤ → ℤ → ℤ → ℤ → DispatchWord → EnergyPost
 energy_post lmp iie edprice edqty ed = record {
-  lmp = lmp;
-  mss = pos 0;
-  resprice = pos 0;
-  edprice = edprice;
-  iie = iie;
-  oa = pos 0;
-  mssiie = pos 0;
-  res = pos 0;
-  above = pos 0;
-  edqty = edqty;
+  lmp = record { 0 = lmp };
+  mss = record { 0 = pos 0 };
+  resprice = record { 0 = pos 0 };
+  edprice = record { 0 = edprice };
+  iie = record { 0 = iie };
+  oa = record { 0 = pos 0 };
+  mssiie = record { 0 = pos 0 };
+  res = record { 0 = pos 0 };
+  above = record { 0 = pos 0 };
+  edqty = record { 0 = edqty };
   resflag = pos 0;
   ed = ed;
 }
@@ -47,9 +49,9 @@ imbalance_cents post = to_cents (imbalance_products plain (energy_record post) (
 -- the pool of an area that is opted in, by F, T, the credit and the bid cap
 abbrev pub pool_of : ℤ → ℤ → ℤ → ℤ → ℤ
 pool_of failed transferred credit cap =
-    surcharge_pool (election_record (record { opted_in = pos 1; cap = cap; up = credit; nopay = pos 0 }))
-    (test_record (record { capacity = failed; ramp = pos 0; nopay = pos 0 }))
-    (transfer_record (record { to = transferred; base_to = pos 0; «from» = pos 0; base_from = pos 0 }))
+    surcharge_pool (election_record (record { opted_in = pos 1; cap = record { 0 = cap }; up = record { 0 = credit }; nopay = record { 0 = pos 0 } }))
+    (test_record (record { capacity = record { 0 = failed }; ramp = record { 0 = pos 0 }; nopay = record { 0 = pos 0 } }))
+    (transfer_record (record { to = record { 0 = transferred }; base_to = record { 0 = pos 0 }; «from» = record { 0 = pos 0 }; base_from = record { 0 = pos 0 } }))
 
 abbrev pub shares_by : Rule → ℤ → List ℕ → List ℤ
 shares_by LargestRemainder p ws = largest_remainder p ws
@@ -65,7 +67,8 @@ flag_of true = pos 1
 
 abbrev pub two_tags : ℤ → ℤ → Bool → List Tag
 two_tags kw telemetry curtailed =
-    tags (record { kw = kw; telemetry = telemetry; curtailed = pos 0 }) (record { kw = kw; telemetry = pos 0; curtailed = flag_of curtailed })
+    tags (record { kw = record { 0 = kw }; telemetry = record { 0 = telemetry }; curtailed = pos 0 })
+    (record { kw = record { 0 = kw }; telemetry = record { 0 = pos 0 }; curtailed = flag_of curtailed })
 
 abbrev pub Holds : Example → Type 0
 Holds (Rounding products cents) = to_cents products ≡ cents
@@ -73,7 +76,7 @@ Holds (Imbalance lmp iie cents) = imbalance_cents (energy_post lmp iie (pos 0) (
 Holds (Dispatch kind lmp edprice edqty cents) = imbalance_cents (energy_post lmp (pos 0) edprice edqty (Named kind)) ≡ cents
 Holds (Surcharge failed transferred credit cap cents) = pool_of failed transferred credit cap ≡ cents
 Holds (Shared rule p ws zs) = shares_by rule p ws.now ≡ zs.now
-Holds (Refused p ws) = (sum ws.now ≡ 0) × (p ≢ pos 0)
+Holds (Refused p ws fault number) = sharing.Refused p ws.now fault × (number_of fault ≡ number)
 -- under both rules
 Holds (Deemed kw telemetry curtailed energies) =
     let ts : List Tag = two_tags kw telemetry curtailed in

@@ -1,5 +1,6 @@
 // A worked example: what is given, and what comes of it.
 use rows::DispatchType;
+use sharing::SharingFault;
 
 #[derive(Clone, Copy)]
 pub enum Rule {
@@ -43,10 +44,12 @@ pub enum Example {
         weights: &'static [u32],
         shares: &'static [i64],
     },
-    // a pool that no weight shares
+    // a pool that every rule refuses, with the number of the refusal
     Refused {
         pool: i64,
         weights: &'static [u32],
+        fault: SharingFault,
+        number: u8,
     },
     // a dynamic tie whose two first intervals have tags of the same kw, the second curtailed or not, and no telemetry there
     Deemed {

@@ -1,11 +1,11 @@
 // Works examples out by the code, and prints what is given and what it gives.
 use super::example::{Example, Rule};
 use anyhow::Context;
-use deemed::{INTERVALS, Tag, TieHour};
+use deemed::{INTERVALS, Kilowatts, Tag, TelemetrySteps, TieHour, Units, pool, weights};
 use formulas::{Products, Terms, imbalance_products, surcharge_pool};
 use rows::{
-    DeemedEnergy, DispatchType, DispatchWord, ElectionPost, EnergyPost, ResourceKind, TagPost,
-    TestPost, TransferPost,
+    DeemedEnergy, DispatchType, DispatchWord, ElectionPost, EnergyPost, PriceSteps, ResourceKind,
+    TagPost, TestPost, TransferPost,
 };
 use sharing::{LargestRemainder, Running, SharingRule};
 use std::io::{self, Write};
@@ -35,8 +35,8 @@ fn imbalance_cents(post: EnergyPost) -> anyhow::Result<i64> {
 
 fn print_imbalance(out: &mut impl Write, lmp: i64, iie: i64) -> anyhow::Result<()> {
     let cents = imbalance_cents(EnergyPost {
-        lmp,
-        iie,
+        lmp: PriceSteps(lmp),
+        iie: Units(iie),
         ..EnergyPost::default()
     })?;
     writeln!(out, "energy lmp {lmp} iie {iie}; cents {cents}")?;
@@ -51,9 +51,9 @@ fn print_dispatch(
     edqty: i64,
 ) -> anyhow::Result<()> {
     let cents = imbalance_cents(EnergyPost {
-        lmp,
-        edprice,
-        edqty,
+        lmp: PriceSteps(lmp),
+        edprice: PriceSteps(edprice),
+        edqty: Units(edqty),
         ed: DispatchWord::Named(kind),
         ..EnergyPost::default()
     })?;
@@ -72,18 +72,18 @@ fn print_surcharge(
 ) -> anyhow::Result<()> {
     let election = made(ElectionPost {
         opted_in: 1,
-        cap,
-        up: credit,
-        nopay: 0,
+        cap: PriceSteps(cap),
+        up: Kilowatts(credit),
+        nopay: Kilowatts(0),
     }
     .read())?;
     let test = made(TestPost {
-        capacity: failed,
+        capacity: Kilowatts(failed),
         ..TestPost::default()
     }
     .read())?;
     let transfer = made(TransferPost {
-        to: transferred,
+        to: Units(transferred),
         ..TransferPost::default()
     }
     .read())?;
@@ -132,14 +132,14 @@ fn print_shared(out: &mut impl Write, rule: Rule, pool: i64, weights: &[u32]) ->
 fn two_tags(kw: i64, telemetry: i64, curtailed: bool) -> anyhow::Result<[Tag; INTERVALS]> {
     let mut tags = [Tag::none(); INTERVALS];
     tags[0] = made(TagPost {
-        kw,
-        telemetry,
+        kw: Kilowatts(kw),
+        telemetry: TelemetrySteps(telemetry),
         curtailed: 0,
     }
     .read())?;
     tags[1] = made(TagPost {
-        kw,
-        telemetry: 0,
+        kw: Kilowatts(kw),
+        telemetry: TelemetrySteps(0),
         curtailed: i64::from(curtailed),
     }
     .read())?;
@@ -153,8 +153,10 @@ fn print_energies<R: SharingRule>(
     rule: &R,
     tags: [Tag; INTERVALS],
 ) -> anyhow::Result<()> {
-    let mut hour = TieHour::new(tags);
-    hour.share(rule).ok().context("no interval weighs")?;
+    let mut hour = TieHour::new(weights(tags));
+    hour.share(rule, pool(tags))
+        .ok()
+        .context("no interval weighs")?;
     let [first, second, ..] = hour.units();
     writeln!(out, " {name} {} {}", first.0, second.0)?;
     Ok(())
@@ -206,7 +208,7 @@ pub(super) fn print_outcome(out: &mut impl Write, example: Example) -> anyhow::R
             weights,
             ..
         } => print_shared(out, rule, pool, weights)?,
-        Example::Refused { pool, weights } => {
+        Example::Refused { pool, weights, .. } => {
             print_shared(out, Rule::LargestRemainder, pool, weights)?;
             print_shared(out, Rule::Running, pool, weights)?;
         }

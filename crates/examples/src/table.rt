@@ -3,9 +3,10 @@ ghost use Rattle.examples.specs.Holds.{AllHold};
 
 use super::example::{Example, Rule};
 use rows::DispatchType;
+use sharing::SharingFault;
 
 // Every one is what the definitions give.
-#[tactic(auto, unfolding(sharing::specs::LargestRemainder::largest_remainder, sharing::specs::Running::running, tables::specs::Ranges::in_range, deemed::specs::Tags::as_tag, deemed::specs::Tags::interval_weight, rows::specs::Figures::either_way, rows::specs::Figures::as_price, rows::specs::Figures::as_cap, rows::specs::Figures::as_energy, rows::specs::Figures::as_volume, rows::specs::Posts::energy_record, rows::specs::Posts::tag_record, rows::specs::Posts::election_record, rows::specs::Posts::test_record, rows::specs::Posts::transfer_record, formulas::specs::Rounding::to_cents, formulas::specs::Dispatch::exceptional_dispatch, formulas::specs::Imbalance::imbalance_products, formulas::specs::Surcharge::surcharge_pool))]
+#[tactic(auto, using(crate::proofs::Refusals::refused_by_no_weight), unfolding(sharing::specs::LargestRemainder::largest_remainder, sharing::specs::Running::running, tables::specs::Ranges::in_range, deemed::specs::Tags::as_tag, deemed::specs::Tags::interval_weight, rows::specs::Figures::as_price, rows::specs::Figures::as_cap, rows::specs::Figures::as_energy, rows::specs::Figures::as_unsigned, rows::specs::Figures::as_power, rows::specs::Posts::energy_record, rows::specs::Posts::tag_record, rows::specs::Posts::election_record, rows::specs::Posts::test_record, rows::specs::Posts::transfer_record, formulas::specs::Rounding::to_cents, formulas::specs::Dispatch::exceptional_dispatch, formulas::specs::Imbalance::imbalance_products, formulas::specs::Surcharge::surcharge_pool))]
 pub fn examples() -> [Example; 28]
     ensures { AllHold result }
 {
@@ -146,6 +147,8 @@ pub fn examples() -> [Example; 28]
         Example::Refused {
             pool: 5,
             weights: &[0, 0],
+            fault: SharingFault::NoWeight,
+            number: 8,
         },
         Example::Deemed {
             kw: 300,
