@@ -82,6 +82,14 @@ def edges():
     yield MOST_POOL - 7, [31_249_999] * 63 + [31_250_063]
 
 
+def worked():
+    """The examples that docs/sharing.md works by hand, but for those among the edges."""
+    yield 5_000, [1, 2]
+    yield 100, [1, 1, 1]
+    yield -100, [1, 1, 1]
+    yield 10, [3, 0, 4]
+
+
 def drawn(draw):
     for _ in range(160):
         most = draw.choice([1, 3, 10, 1000, MOST_WEIGHT])
@@ -94,7 +102,7 @@ def drawn(draw):
 
 def main():
     here = Path(__file__).parent
-    cases = list(edges()) + list(drawn(random.Random(6477)))
+    cases = list(edges()) + list(drawn(random.Random(6477))) + list(worked())
     with open(here / "stdin", "w") as given, open(here / "stdout", "w") as wanted:
         for pool, weights in cases:
             print(pool, *weights, file=given)
